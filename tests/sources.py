@@ -1,12 +1,12 @@
-"""The sources of the program: want of memory is said by few functions of their own accord, each for a reason; all others pass on what they were told.
-And how tidy the sources are: no measure of tools/house.py is above its limit, and each sees what it has to.
+"""The sources: few functions of the program say of their own accord that memory is wanting, and
+tools/house.py counts what it has to.
 
-No contract says that memory suffices, so a function that says it is wanting would be proved whatever it does."""
+No contract says that memory suffices, so a function that says it is wanting would be proved
+whatever it does. All other functions pass on what they were told.
+"""
 import pathlib
 import re
-import shutil
 import sys
-import zipfile
 from typing import Iterator
 
 import contracts
@@ -14,79 +14,68 @@ import gate_tables
 import measuring
 from harness import ROOT, Ended, Harness, Outcome, compared, ended_as, side_by_side
 
-# Crates of tests, which are no part of the program.
-OF_TESTS = re.compile(r"(?:fleet_)?trials")
+sys.path.append(str(ROOT / "tools"))
+from measures.rattle import Function, functions, type_of  # noqa: E402
+from measures.workspace import Workspace  # noqa: E402
+
+# Crates of tests are no part of the program.
+OF_TESTS = re.compile(r"crates/(?:fleet_)?trials/")
 NAMES = re.compile(r"\b(?:OutOfMemory|AllocError)\b(?!::from)")
-FUNCTION = re.compile(r"^( *)(?:pub(?:\(\w+\))? )?(?:const )?fn (\w+)", re.MULTILINE)
-BLOCK = re.compile(r"^(?:impl|trait)\b(?:<[^{]*?>)? ?(.*?)(?: where .*)? \{$", re.MULTILINE)
 STRINGS_AND_COMMENTS = re.compile(r'b?"(?:[^"\\]|\\.)*"|//[^\n]*')
 # Under another name they would not be found.
 RENAMED = re.compile(r"^ *(?:pub )?use [^;]*\b(?:OutOfMemory|AllocError) as ", re.MULTILINE)
 # Where names stand that are compared, and not made.
-PATTERNS = [re.compile(r"\bmatches!\([^;]*?\)(?=[\s;,)]|$)"), re.compile(r"\blet [^=;]*="), re.compile(r"^[^=\n]*(?:=(?!>)[^=\n]*)*=>", re.MULTILINE)]
-PATTERNS.append(re.compile(r"^ *\| .*$", re.MULTILINE))
+PATTERNS = (
+    re.compile(r"\bmatches!\([^;]*?\)(?=[\s;,)]|$)"),
+    re.compile(r"\blet [^=;]*="),
+    re.compile(r"^[^=\n]*(?:=(?!>)[^=\n]*)*=>", re.MULTILINE),
+    re.compile(r"^ *\| .*$", re.MULTILINE),
+)
+# A contract forces the words of a fault, and such a `from` has nothing but a want to name.
+FORCED = re.compile(r"impl From<(?:AllocError|OutOfMemory)> for .*from$|impl.*words$")
 
 # Why a function may say it.
 NAMED_ANEW = "passes on a want that it was told of by the name that another type has for it"
 PASSED_ON = "passes on a want that it was told of among other cases"
 NO_TEXT = "has no memory for the text of its answer"
 MADE = {
-    "agent/mem_tape.rt: From<OutOfMemory> for TapeMakeFault: from": NAMED_ANEW,
-    "agent/refusal.rt: From<AllocError> for HearFault: from": NAMED_ANEW,
-    "agent/refusal.rt: From<AllocError> for TellFault: from": NAMED_ANEW,
     "agent/replies.rt: reply_to_delivery": PASSED_ON,
-    "agent_commands/agent_fault.rt: From<AllocError> for AgentFault: from": NAMED_ANEW,
     "agent_commands/plan_file.rt: blame_of": NAMED_ANEW,
     "check_commands/verdicts.rt: accept": NAMED_ANEW,
     "check_commands/verdicts.rt: list": NAMED_ANEW,
     "check_commands/verdicts.rt: reject": NO_TEXT,
     "check_commands/verdicts.rt: tell": NO_TEXT,
-    "command_line/command_line.rt: From<AllocError> for LineFault: from": NAMED_ANEW,
-    "command_line/command_line.rt: LineFault: bad_command": NO_TEXT,
-    "command_line/command_line.rt: refused": "has no memory for the text of clap's answer, or clap had none",
+    "checker/checker.rt: check": "gives the plan back beside the want",
+    "command_line/command_line.rt: LineFault::bad_command": NO_TEXT,
+    "command_line/command_line.rt: refused": "has no memory for clap's answer, or clap had none",
     "command_line/words.rt: no_number": NO_TEXT,
     "continuing/cutting.rt: first_acts": NAMED_ANEW,
-    "event_text/event_fault.rt: From<AllocError> for EventFault: from": NAMED_ANEW,
-    "executor/complete_fault.rt: From<AllocError> for CompleteFault: from": NAMED_ANEW,
-    "executor/runner.rt: Runner<'g>: over": "was given an agent back that there was no room for",
-    "executor/runner.rt: Runner<'g>: tell": PASSED_ON,
+    "executor/runner.rt: Runner::over": "was given an agent back that there was no room for",
+    "executor/runner.rt: Runner::tell": PASSED_ON,
     "executor/runs.rt: run_with": "was given a reply back that there was no room for",
-    "executor/said.rt: Said: keep_told": "takes back what it had taken, and then says why",
+    "executor/said.rt: Said::keep_told": "takes back what it had taken, and then says why",
     "fleet_commands/anew_command.rt: fault_of": NAMED_ANEW,
     "fleet_commands/found_tapes.rt: unless_refused": NAMED_ANEW,
-    "fleet_commands/handover_fault.rt: From<AllocError> for HandoverFault: from": NAMED_ANEW,
-    "fleet_commands/handover_fault.rt: From<PushFault> for HandoverFault: from": NAMED_ANEW,
+    "fleet_commands/handover_fault.rt: HandoverFault::from": NAMED_ANEW,
     "fleet_commands/status_command.rt: tell": NO_TEXT,
-    "grid/map_fault.rt: From<AllocError> for MapFault: from": NAMED_ANEW,
-    "least_steps/step_fault.rt: From<AllocError> for StepFault: from": NAMED_ANEW,
     "mapf/main.rt: fault_of": "tells why the system didn't give the words of the command line",
     "mapf_cmd/unperformed.rt: refuse": "tells that there was no memory for a command line",
-    "checker/checker.rt: check": "gives the plan back beside the want",
     "plan_commands/continues_command.rt: tell": NO_TEXT,
     "plan_commands/cut_command.rt: read_cut": NAMED_ANEW,
-    "plan_commands/path_command.rt: show": "was given an answer that there was no room for where agents are",
-    "plan_text/plan.rt: From<AllocFailed<T>> for PushFault: from": NAMED_ANEW,
-    "plan_text/plan_reader.rt: Progress: add_line": PASSED_ON,
-    "plan_text/plan_text_fault.rt: From<AllocError> for PlanTextFault: from": NAMED_ANEW,
-    "planned/planned_fault.rt: From<OutOfMemory> for PlannedFault: from": NAMED_ANEW,
+    "plan_commands/path_command.rt: show": "was given an answer that there was no room for",
+    "plan_text/plan.rt: PushFault::from": NAMED_ANEW,
+    "plan_text/plan_reader.rt: Progress::add_line": PASSED_ON,
     "planned/reading.rt: read_at_hand": NAMED_ANEW,
     "proof_check/progress.rt: unjudged": NAMED_ANEW,
     "proof_commands/optimal_command.rt: tell": NO_TEXT,
-    "proof_text/proof_fault.rt: From<AllocError> for ProofFault: from": NAMED_ANEW,
     "robot/answering.rt: answer_hear": PASSED_ON,
     "robot/answering.rt: answer_tell": PASSED_ON,
-    "robot/file_tape.rt: From<AllocError> for FileTapeFault: from": NAMED_ANEW,
-    "robot/file_tape.rt: From<TapeMakeFault> for FileTapeFault: from": NAMED_ANEW,
-    "robot/talk_fault.rt: From<AllocError> for TalkFault: from": NAMED_ANEW,
-    "scenario/scen_fault.rt: From<AllocError> for ScenFault: from": NAMED_ANEW,
+    "robot/file_tape.rt: FileTapeFault::from": NAMED_ANEW,
     "runner/completing.rt: put_ending": PASSED_ON,
-    "runner/run_fault.rt: From<OutOfMemory> for RunFault: from": NAMED_ANEW,
-    "walks/search_fault.rt: From<AllocError> for SearchFault: from": NAMED_ANEW,
     "text_commands/judge.rt: row_fault": PASSED_ON,
     "text_commands/row_command.rt: propose": PASSED_ON,
     "text_commands/rows_command.rt: judge_on": NAMED_ANEW,
-    "text_io/failure.rt: Failure: name": NAMED_ANEW,
-    "text_io/out_of_memory.rt: From<AllocError> for OutOfMemory: from": NAMED_ANEW,
+    "text_io/failure.rt: Failure::name": NAMED_ANEW,
 }
 # In how many places a function says it, where that is more than one.
 PLACES = {"command_line/command_line.rt: refused": 2, "command_line/words.rt: no_number": 2}
@@ -113,18 +102,6 @@ FORMS = [
 ]
 
 
-def bodies(text: str) -> Iterator[tuple[str, str]]:
-    """The functions of a source with their bodies, without contracts; a method has the head of its block in front of its name."""
-    blocks = [(found.start(), found.group(1)) for found in BLOCK.finditer(text)]
-    for found in FUNCTION.finditer(text):
-        indent, name = found.groups()
-        # Laid out by the kit, a body begins at the end of the head's line or on a line of its own, and ends on one.
-        body = re.compile(rf"(?:^{indent}| )\{{\n(.*?)^{indent}\}}$", re.MULTILINE | re.DOTALL).search(text, found.start())
-        if body:
-            block = [head for start, head in blocks if start < found.start()][-1:] if indent else []
-            yield "".join(f"{head}: " for head in block) + name, body.group(1)
-
-
 def places(body: str) -> int:
     """In how many places a body makes a value that says so."""
     text = STRINGS_AND_COMMENTS.sub("", body)
@@ -133,16 +110,28 @@ def places(body: str) -> int:
     return len(NAMES.findall(text))
 
 
-def making(crates: pathlib.Path) -> Iterator[tuple[str, int]]:
-    """The functions of the program that say of their own accord that memory is wanting, and in how many places each does."""
-    for path in sorted(crates.glob("*/src/**/*.rt")):
-        crate = path.relative_to(crates).parts[0]
-        if not OF_TESTS.fullmatch(crate):
-            text = path.read_text(encoding="utf-8")
-            # The words of a fault are forced by a contract.
-            told = [(name, body) for name, body in bodies(text) if not name.endswith(": words")]
-            named = [(f"{crate}/{path.name}: {name}", places(body)) for name, body in told]
-            yield from ((name, count) for name, count in [*named, (f"{crate}/{path.name}: use .. as ..", len(RENAMED.findall(text)))] if count)
+def making() -> dict[str, int]:
+    """In how many places each function of the program says of its own accord that memory is
+    wanting, of those that do."""
+    found: dict[str, int] = {}
+    workspace = Workspace(ROOT)
+    for path in workspace.of_crates("src"):
+        if not OF_TESTS.match(path):
+            _, crate, _, file = path.split("/", 3)
+            text = workspace.text(path)
+            told = [(named(it), places(it.body)) for it in functions(text) if not is_forced(it)]
+            for name, count in [*told, ("use .. as ..", len(RENAMED.findall(text)))]:
+                if count:
+                    found[f"{crate}/{file}: {name}"] = count
+    return found
+
+
+def named(it: Function) -> str:
+    return f"{type_of(it.block)}::{it.contract.name}" if it.block else it.contract.name
+
+
+def is_forced(it: Function) -> bool:
+    return bool(FORCED.match(f"{it.block} {it.contract.name}"))
 
 
 HOUSE = pathlib.Path("tools") / "house.py"
@@ -150,7 +139,6 @@ MEASURE = re.compile(r"^(\S+) +(\d+) of at most +(\d+)  ")
 LONG = "".join(f"    step({number});\n" for number in range(41))
 # A workspace in which each measure has something to count, beside what it must not count.
 UNTIDY = {
-    "crates.txt": "# The product.\none:\ntwo: one\nmapf: one two\ntrials: two\n",
     "crates/one/specs/Cells.antt": """-- Cells.
 use Rattle.std.specs.Prelude.{ℕ, Bool, true, false}
 
@@ -178,14 +166,20 @@ unreached = 1
   where
     Pair : ℕ
 """,
-    "crates/two/specs/More.antt": "pub record is_free (n : ℕ) : Type 0 where\n  pub IsRow : ℕ\n"
-    f"-- {'x' * 97}\n-- {'x' * 98}\n-- {'x' * 98} \"text\"\nuse Rattle.one.{'x' * 98}\n",
+    "crates/two/specs/More.antt": f"""pub record is_free (n : ℕ) : Type 0 where
+  pub IsRow : ℕ
+-- {'x' * 97}
+-- {'x' * 98}
+-- {'x' * 98} "text"
+use Rattle.one.{'x' * 98}
+""",
     "crates/two/specs/Lib.antt": "pub mod Rows\npub mod More\n",
     "crates/two/proofs/Rows.antt": """use Rattle.std.proofs.Common.{refl}
 use Rattle.one.specs.Cells.{is_free}
 use Rattle.one.proofs.Cells.{free, land}
 use Rattle.two.proofs.More.{more}
-""",
+"""
+    f"-- {'x' * 197}\n-- {'x' * 198}\n",
     "crates/two/src/lib.rt": f"""ghost use Rattle.one.proofs.laws.one as law;
 ghost use Rattle.two.specs.Rows.{{IsRow}};
 
@@ -208,13 +202,13 @@ impl<'a> Row<'a> {{
     {{
 {LONG.replace("    step(40);", "    }", 1)}}}
 """,
-    # It is no crate of the product.
-    "crates/trials/src/lib.rt": f"fn long() {{\n{LONG}}}\n",
     "crates/one/out/Made.antt": "is_free : ℕ\n" * 501,
     "tests/long.py": "pass\n" * 501,
     "tools/short.py": "pass\n" * 500,
-    "README.md": "Of `is_free`, `Row::put`, `Row::gone`, `AnswersX`, `x_row`, `--no-flag`, `no_file.py` and `two words`.\n",
-    "docs/PAGE.md": """`gone_name`, `GoneName` and `is-gone`, but `put_all(a)`, gone_there and `put-all` of the tests.
+    "README.md": """Of `is_free`, `Row::put`, `Row::gone`, `AnswersX`, `x_row`, `--no-flag`,
+`no_file.py` and `two words`.
+""",
+    "docs/PAGE.md": """`gone_name`, `GoneName`, `is-gone`, but `put_all(a)`, gone_there and `put-all`.
 
 ```console
 $ ./mapf `gone_here`
@@ -249,153 +243,51 @@ for was, now in (
 ):
     PROMISES = PROMISES.replace(was, now)
 # What the promise of a call reaches, and what is said where no promise has it.
-REACHED = [
-    "crates/one/specs/Cells.antt:4: is_free, 3 lines",
-    "crates/two/specs/Rows.antt:5: IsRow, 3 lines",
-]
-NOT_REACHED = "house: no promise of docs/PROMISES.md has the call 'never'"
-# The rows of the page, as places that are measured.
-OF_ROW = "docs/PROMISES.md:9: 2 definitions, 6 lines: two: is_row, IsRow"
-OF_FREE = "docs/PROMISES.md:10: 1 definitions, 3 lines: one: is_free, lost_law"
-OF_PUT = "docs/PROMISES.md:11: 2 definitions, 6 lines: two: Row::put_all, put"
-# Each of its measures: the count, and the places.
+REACHED = b"""crates/one/specs/Cells.antt:4: is_free, 3 lines
+crates/two/specs/Rows.antt:5: IsRow, 3 lines
+"""
+NOT_REACHED = b"house: no promise of docs/PROMISES.md has the call 'never'\n"
+# Each of its measures, with its places.
 SEEN = {
-    "specs-twice": (1, ["crates/one/specs/Cells.antt:4: is_free, as in crates/two/specs/More.antt:1"]),
-    "foreign-proofs": (2, ["crates/two/proofs/Rows.antt:3: two uses proofs of one", "crates/two/src/lib.rt:1: two uses proofs of one"]),
-    "foreign-crates": (1, ["crates/two/proofs/Rows.antt:3: two uses proofs of one"]),
-    "stale-names": (
-        6,
-        [
-            *("README.md:1: gone", "docs/PAGE.md:1: gone_name", "docs/PAGE.md:1: GoneName", "docs/PAGE.md:1: is-gone"),
-            *("docs/PAGE.md:7: gone", "docs/PROMISES.md:10: lost_law"),
-        ],
-    ),
-    "lost-calls": (1, ["docs/PROMISES.md:10: lost_law"]),
-    "stale-promises": (2, [OF_FREE, OF_PUT]),
-    "longest-promise": (6, [OF_ROW]),
-    "all-promises": (15, [OF_ROW, OF_PUT, OF_FREE]),
-    "long-functions": (1, ["crates/two/src/lib.rt:5: is_row has 41 lines"]),
-    "long-files": (1, ["tests/long.py:501: the file has 501 lines"]),
-    "many-parameters": (1, ["crates/two/src/lib.rt:59: put_all has 6 parameters"]),
-    "wide-lines": (1, ["crates/two/specs/More.antt:4: the line has 101 columns"]),
+    "specs-twice": [
+        "crates/one/specs/Cells.antt:4: is_free, as in crates/two/specs/More.antt:1",
+    ],
+    "foreign-proofs": [
+        "crates/two/src/lib.rt:1: two uses proofs of one",
+        "crates/two/proofs/Rows.antt:3: two uses proofs of one",
+    ],
+    "long-functions": ["crates/two/src/lib.rt:5: is_row has 41 lines"],
+    "many-parameters": ["crates/two/src/lib.rt:59: put_all has 6 parameters"],
+    "long-files": ["tests/long.py:501: the file has 501 lines"],
+    "wide-lines": [
+        "crates/two/specs/More.antt:4: the line has 101 columns, not 100",
+        "crates/two/proofs/Rows.antt:6: the line has 201 columns, not 200",
+    ],
+    "stale-names": [
+        "docs/PAGE.md:1: gone_name",
+        "docs/PAGE.md:1: GoneName",
+        "docs/PAGE.md:1: is-gone",
+        "docs/PAGE.md:7: gone",
+        "docs/PROMISES.md:10: lost_law",
+        "README.md:1: gone",
+    ],
+    "stale-promises": [
+        "docs/PROMISES.md:10: there is no lost_law",
+        "docs/PROMISES.md:10: --write-promises changes it",
+        "docs/PROMISES.md:11: --write-promises changes it",
+    ],
 }
-
-
-def house(harness: Harness, words: list[str], tools: pathlib.Path = ROOT) -> Ended:
-    """Measures a folder."""
-    return harness.run([sys.executable, str(tools / HOUSE), *words])
-
-
-def measures(told: bytes) -> dict[str, tuple[int, int, list[str]]]:
-    """What was told of each measure: its count, its limit and its places."""
-    found: dict[str, tuple[int, int, list[str]]] = {}
-    for line in told.decode().splitlines():
-        begun = MEASURE.match(line)
-        if begun:
-            places: list[str] = []
-            found[begun[1]] = int(begun[2]), int(begun[3]), places
-        elif found:
-            places.append(line.strip())
-    return found
-
-
-def written(harness: Harness, files: dict[str, str]) -> pathlib.Path:
-    """A folder with these files, in folders of their own."""
-    folder = harness.folder()
-    for name, text in files.items():
-        (folder / name).parent.mkdir(parents=True, exist_ok=True)
-        (folder / name).write_text(text, encoding="utf-8")
-    return folder
-
-
-def before(harness: Harness) -> dict[str, tuple[int, int, list[str]]]:
-    """The measures of the last commit, none where it isn't to be had."""
-    folder = harness.folder()
-    archived = harness.run(["git", "archive", "-o", str(folder / "last.zip"), "HEAD"], folder=ROOT)
-    if archived.status:
-        return {}
-    with zipfile.ZipFile(folder / "last.zip") as last:
-        last.extractall(folder)
-    return measures(house(harness, ["--all", "--root", str(folder)]).out)
-
-
-def of_the_sources(harness: Harness) -> Iterator[Outcome]:
-    """Whether each measure of the sources is within its limit. Where one isn't, the places are told that the last commit had not, or else all."""
-    ended = house(harness, ["--all"])
-    found = measures(ended.out)
-    yield compared("what is measured", f"{HOUSE} --all", [*found, ended.err], [*SEEN, b""])
-    last = before(harness) if ended.status else {}
-    for name, (count, limit, places) in found.items():
-        had = {re.sub(r":\d+", "", place) for place in last.get(name, (0, 0, []))[2]}
-        new = [place for place in places if re.sub(r":\d+", "", place) not in had] or places
-        told = "\n        ".join([f"ran    {HOUSE} --list {name}\n    wrote  {count} of at most {limit}", *new])
-        yield Outcome(name, told if count > limit else "")
-
-
-def of_a_workspace(harness: Harness) -> Iterator[Outcome]:
-    """Whether each measure sees what it has to, and no more."""
-    folder = str(written(harness, UNTIDY))
-    ended = house(harness, ["--all", "--root", folder])
-    found = measures(ended.out)
-    yield compared("a workspace above each limit", f"{HOUSE} --all", (ended.status, ended.err), (1, b""))
-    for name, (count, places) in SEEN.items():
-        yield compared(f"{name} of a workspace", f"{HOUSE} --all", found.get(name), (count, 0, places))
-    ended = house(harness, ["--list", "long-files", "--root", folder])
-    due = {"long-files": (1, 0, SEEN["long-files"][1])}
-    yield compared("one measure of it", f"{HOUSE} --list long-files", measures(ended.out), due)
-    ended = house(harness, ["--promises", "--root", folder])
-    due = [
-        "definitions  lines  promise",
-        "          2      6  two: is_row, IsRow",
-        "          1      3  one: is_free, lost_law",
-        "          2      6  two: Row::put_all, put",
-    ]
-    wrote = (ended.status, ended.out.decode().splitlines())
-    yield compared("its promises", f"{HOUSE} --promises", wrote, (0, due))
-
-
-def of_promises(harness: Harness) -> Iterator[Outcome]:
-    """Whether the page of promises is written as the sources have it, and what one reaches."""
-    folder = written(harness, UNTIDY)
-    root = ["--root", str(folder)]
-    for call, due in (("is_row", (0, REACHED, "")), ("never", (1, [], NOT_REACHED))):
-        ended = house(harness, ["--reached", call, *root])
-        wrote = (ended.status, ended.out.decode().splitlines(), ended.err.decode().strip())
-        yield compared(f"what {call} reaches", f"{HOUSE} --reached {call}", wrote, due)
-    ran, file = f"{HOUSE} --write-promises", folder / "docs/PROMISES.md"
-    for time in ("once", "twice"):
-        ended = house(harness, ["--write-promises", *root])
-        yield ended_as(f"promises written {time}", ran, ended, Ended(0, b"", b""))
-        page = file.read_text(encoding="utf-8")
-        yield compared(f"the page, written {time}", ran, page, PROMISES)
-    stale = measures(house(harness, ["--list", "stale-promises", *root]).out)
-    yield compared("no row is stale then", ran, stale, {"stale-promises": (0, 0, [])})
-    file.unlink()
-    due = Ended(1, b"", b"house: docs/PROMISES.md can't be read: No such file or directory\n")
-    ended = house(harness, ["--write-promises", *root])
-    yield ended_as("no page of promises", ran, ended, due)
-
-
-def of_limits(harness: Harness) -> Iterator[Outcome]:
-    """What is said where counts are below their limits."""
-    folder = written(harness, {"crates.txt": "mapf:\n", "crates/mapf/src/main.rt": "fn main() {}\n"})
-    shutil.copytree(ROOT / "tools", folder / "tools", ignore=shutil.ignore_patterns("__pycache__"))
-    ended = house(harness, [], folder)
-    hinted = [line.endswith(": the limit may fall to 0") for line in ended.out.decode().splitlines()]
-    due = [limit > 0 for _, limit, _ in measures(ended.out).values()]
-    yield compared("a workspace below its limits", str(HOUSE), (ended.status, ended.err, any(due), hinted), (0, b"", True, due))
-
-
-NO_TABLE = "has no table between the lines '<!--promises-->' and '<!--end-->'"
+TOLD = """definitions  lines  promise
+          2      6  two: is_row, IsRow
+          1      3  one: is_free, lost_law
+          2      6  two: Row::put_all, put
+"""
+NO_TABLE = "docs/PROMISES.md has no table between the lines '<!--promises-->' and '<!--end-->'"
 # What can't be measured, by the file that is changed: its text, and what is said of it.
 UNREADABLE = [
     ("crates/one/specs/Cells.antt", b"\xff", "crates/one/specs/Cells.antt is no text in UTF-8"),
-    ("docs/PROMISES.md", b"# Promises\n", f"docs/PROMISES.md {NO_TABLE}"),
-    (
-        "docs/PROMISES.md",
-        b"<!--promises-->\n|a|\n|-|\n<!--end-->\n|b|\n",
-        f"docs/PROMISES.md {NO_TABLE}",
-    ),
+    ("docs/PROMISES.md", b"# Promises\n", NO_TABLE),
+    ("docs/PROMISES.md", b"<!--promises-->\n|a|\n|-|\n<!--end-->\n|b|\n", NO_TABLE),
     (
         "docs/PROMISES.md",
         b"<!--promises-->\n|a|\n|-|\n|A|`b`|c|\n<!--end-->\n",
@@ -404,25 +296,111 @@ UNREADABLE = [
 ]
 
 
+def house(harness: Harness, *words: str) -> Ended:
+    """Measures a folder, or this checkout."""
+    return harness.run([sys.executable, str(ROOT / HOUSE), *words])
+
+
+def measures(told: bytes) -> dict[str, tuple[int, int, list[str]]]:
+    """What was told of each measure: its count, its limit and its places."""
+    found: dict[str, tuple[int, int, list[str]]] = {}
+    for line in told.decode().splitlines():
+        begun = MEASURE.match(line)
+        if begun:
+            found[begun[1]] = int(begun[2]), int(begun[3]), []
+        else:
+            [*found.values()][-1][2].append(line.strip())
+    return found
+
+
+def untidy(harness: Harness) -> pathlib.Path:
+    """A folder with that workspace."""
+    folder = harness.folder()
+    for name, text in UNTIDY.items():
+        (folder / name).parent.mkdir(parents=True, exist_ok=True)
+        (folder / name).write_text(text, encoding="utf-8")
+    return folder
+
+
+def of_the_sources(harness: Harness) -> Iterator[Outcome]:
+    """Whether each count of the sources is within its limit."""
+    ended = house(harness)
+    found = measures(ended.out)
+    yield compared("what is measured", str(HOUSE), [*found, ended.err], [*SEEN, b""])
+    for name, (count, limit, where) in found.items():
+        told = "\n        ".join([f"ran    {HOUSE}\n    wrote  {count}, above {limit}", *where])
+        yield Outcome(name, told if count > limit else "")
+
+
+def of_a_workspace(harness: Harness) -> Iterator[Outcome]:
+    """Whether each measure counts what it has to, and no more."""
+    root = ("--root", str(untidy(harness)))
+    ended = house(harness, "--all", *root)
+    found = measures(ended.out)
+    wrote = (ended.status, ended.err)
+    yield compared("a workspace above its limits", f"{HOUSE} --all", wrote, (1, b""))
+    for name, due in SEEN.items():
+        count, _, where = found.get(name, (0, 0, []))
+        yield compared(f"{name} of it", f"{HOUSE} --all", (count, where), (len(due), due))
+    for name, (count, limit, where) in measures(house(harness, *root).out).items():
+        due = SEEN[name] if count > limit else []
+        yield compared(f"{name} where all aren't asked for", str(HOUSE), where, due)
+    hinted = ended.out.count(b": the limit may fall to ")
+    due = sum(count < limit for count, limit, _ in found.values())
+    yield compared("which limits may fall", f"{HOUSE} --all", hinted, due)
+
+
+def of_promises(harness: Harness) -> Iterator[Outcome]:
+    """Whether the page of promises is written as the sources have it, and what one reaches."""
+    folder = untidy(harness)
+    root, file = ("--root", str(folder)), folder / "docs/PROMISES.md"
+    for words, due in (
+        (("--promises",), Ended(0, TOLD.encode(), b"")),
+        (("--reached", "is_row"), Ended(0, REACHED, b"")),
+        (("--reached", "never"), Ended(1, b"", NOT_REACHED)),
+        (("--write-promises",), Ended(0, b"", b"")),
+        (("--write-promises",), Ended(0, b"", b"")),
+    ):
+        ended = house(harness, *words, *root)
+        yield ended_as("promises", f"{HOUSE} {' '.join(words)}", ended, due)
+    page = file.read_text(encoding="utf-8")
+    yield compared("the page, written twice", f"{HOUSE} --write-promises", page, PROMISES)
+    _, _, stale = measures(house(harness, "--all", *root).out)["stale-promises"]
+    yield compared("what is stale then", str(HOUSE), stale, SEEN["stale-promises"][:1])
+    file.unlink()
+    due = b"house: docs/PROMISES.md can't be read: No such file or directory\n"
+    ended = house(harness, "--write-promises", *root)
+    yield ended_as("no page of promises", f"{HOUSE} --write-promises", ended, Ended(1, b"", due))
+
+
 def of_bad_workspaces(harness: Harness) -> Iterator[Outcome]:
     """What is said where nothing can be measured."""
     for name, content, due in UNREADABLE:
-        folder = written(harness, UNTIDY)
+        folder = untidy(harness)
         (folder / name).write_bytes(content)
-        ended = house(harness, ["--root", str(folder)])
-        yield compared(due, f"{HOUSE} --root", (ended.status, ended.out, ended.err.decode()), (1, b"", f"house: {due}\n"))
+        ended = house(harness, "--root", str(folder))
+        yield ended_as(due, f"{HOUSE} --root", ended, Ended(1, b"", f"house: {due}\n".encode()))
     folder = harness.folder()
-    ended = house(harness, ["--root", str(folder)])
-    told = [f"house.py: error: {folder} has no folder crates/"]
-    yield compared("no workspace", f"{HOUSE} --root", (ended.status, ended.out, ended.err.decode().splitlines()[-1:]), (2, b"", told))
+    ended = house(harness, "--root", str(folder))
+    wrote = (ended.status, ended.out, ended.err.decode().splitlines()[-1:])
+    due = (2, b"", [f"house.py: error: {folder} has no folder crates/"])
+    yield compared("no workspace", f"{HOUSE} --root", wrote, due)
+
+
+def of_memory() -> Iterator[Outcome]:
+    """Which functions say that memory is wanting, and whether such lines are found."""
+    for line, count in FORMS:
+        ran = "a search of this line"
+        yield compared(f"how often it is said by {line!r}", ran, places(line), count)
+    found = making()
+    for name in sorted({*found, *MADE}):
+        due = PLACES.get(name, 1) if name in MADE else 0
+        told = f"{name} says that memory is wanting"
+        yield compared(told, "a search of crates/*/src", found.get(name, 0), due)
 
 
 def outcomes(harness: Harness) -> Iterator[Outcome]:
-    for line, count in FORMS:
-        yield compared(f"how often it is said by {line!r}", "a search of this line", places(line), count)
-    found = dict(making(ROOT / "crates"))
-    for name in sorted({*found, *MADE}):
-        yield compared(f"{name} says that memory is wanting", "a search of crates/*/src", found.get(name, 0), PLACES.get(name, 1) if name in MADE else 0)
-    of_house = (of_the_sources, of_a_workspace, of_promises, of_limits, of_bad_workspaces)
+    yield from of_memory()
+    of_house = (of_the_sources, of_a_workspace, of_promises, of_bad_workspaces)
     parts = (*of_house, contracts.outcomes, measuring.outcomes, gate_tables.outcomes)
     yield from side_by_side([lambda part=part: list(part(harness)) for part in parts])

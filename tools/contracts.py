@@ -18,7 +18,7 @@ from typing import Iterator, Sequence
 
 sys.dont_write_bytecode = True
 import product  # noqa: E402
-from measures.calls import Call, Library, Module, Reader  # noqa: E402
+from measures.calls import Call, Library, Module, file_of  # noqa: E402
 from measures.workspace import BadWorkspace, Workspace  # noqa: E402
 from whole_file import draft  # noqa: E402
 
@@ -64,12 +64,13 @@ def library_lines(library: Library) -> Iterator[str]:
     for crate, names in library.passed_on.items():
         yield f"Passes on {', '.join(f'`{it}`' for it in names)} of `{crate}`."
         yield ""
-    for module in library.modules:
+    for module in library.modules():
         yield from module_lines(module)
 
 
-def page(reader: Reader, crates: Sequence[str]) -> bytes:
-    lines = [line for crate in crates for line in library_lines(reader.library(crate))]
+def page(workspace: Workspace, crates: Sequence[str]) -> bytes:
+    libraries = (Library(workspace, crate) for crate in crates)
+    lines = [line for library in libraries for line in library_lines(library)]
     return "\n".join([TITLE, *lines]).rstrip("\n").encode() + b"\n"
 
 
@@ -96,10 +97,10 @@ def read_words(words: Sequence[str]) -> argparse.Namespace:
     return given
 
 
-def library_crates(reader: Reader) -> list[str]:
+def library_crates(workspace: Workspace) -> list[str]:
     """The product's library crates, in the order of crates.txt."""
-    its_own = product.crates()
-    return [it for it in product.crate_lines() if it in its_own and reader.is_library(it)]
+    its_own = {it for it in product.crates() if file_of(it) in workspace.paths}
+    return [it for it in product.crate_lines() if it in its_own]
 
 
 def tell(line: str) -> None:
@@ -110,13 +111,13 @@ def main(words: Sequence[str]) -> int:
     given = read_words(words)
     # Its crates.txt says which crates the product of that folder is made of.
     product.ROOT = given.root
-    reader = Reader(Workspace(given.root))
-    crates = library_crates(reader)
+    workspace = Workspace(given.root)
+    crates = library_crates(workspace)
     if given.crate and given.crate not in crates:
         tell(f"'{given.crate}' is no library crate: there are {', '.join(crates)}")
         return BAD_LINE
     try:
-        put(page(reader, [given.crate] if given.crate else crates), given.output)
+        put(page(workspace, [given.crate] if given.crate else crates), given.output)
     except BadWorkspace as fault:
         tell(str(fault))
         return BAD_SOURCE

@@ -1,1 +1,1 @@
-"""What house.py measures: the functions of the code, the definitions of `specs/`, the names in docs/, and what promises stand on."""
+"""What house.py and contracts.py read: functions, definitions, names in docs/, and promises."""

@@ -1,8 +1,7 @@
 """The public calls of a library crate: what another crate can name, by its lib.rt, with what is
 said of each there and in its contract."""
-import dataclasses
 import re
-from typing import Iterator
+from typing import Iterator, NamedTuple
 
 from measures.rattle import Function, functions, type_of
 from measures.workspace import Workspace
@@ -14,12 +13,10 @@ PASSED_ON = re.compile(r"^pub use (?:crate::)?(\w+)::(?:\{([^}]*)\}|(\w+));", re
 DECLARED = re.compile(r"^(pub )?(?:pub\(\w+\) )?(?:struct|enum|trait|type) (\w+)", re.MULTILINE)
 # `impl<R: Read> Read for Counted<R> {`: the trait that a type has there.
 HAS_TRAIT = re.compile(r"^(?:unsafe )?impl(?:<.*?>)? ((\w+).*?) for ")
-TRAIT = re.compile(r"^pub trait (\w+)")
 SAID_OF_ALL = re.compile(r"^//! ?(.*)$", re.MULTILINE)
 
 
-@dataclasses.dataclass(frozen=True)
-class Call:
+class Call(NamedTuple):
     """A public call: its name as another crate has it, and the trait by which its type has it."""
 
     name: str
@@ -27,87 +24,56 @@ class Call:
     function: Function
 
 
-@dataclasses.dataclass(frozen=True)
-class Module:
-    """A module with public calls, and what is said of it."""
+class Module(NamedTuple):
+    """A module with public calls, and what is said of it. What stands in lib.rt has no name."""
 
     name: str
     about: str
     calls: tuple[Call, ...]
 
 
-@dataclasses.dataclass(frozen=True)
+def file_of(crate: str, module: str = "lib") -> str:
+    return f"crates/{crate}/src/{module}.rt"
+
+
 class Library:
-    """A library crate: what is said of it, what it passes on of other crates, and its modules."""
+    """A library crate: what is said of it, what it passes on, and what can be named in it."""
 
-    name: str
-    about: str
-    passed_on: dict[str, list[str]]
-    modules: tuple[Module, ...]
-
-
-def about(text: str) -> str:
-    return " ".join(SAID_OF_ALL.findall(text))
-
-
-class Reader:
-    """Reads the library crates of a workspace."""
-
-    def __init__(self, workspace: Workspace) -> None:
-        self.workspace = workspace
-
-    def path(self, crate: str, module: str = "lib") -> str:
-        return f"crates/{crate}/src/{module}.rt"
-
-    def is_library(self, crate: str) -> bool:
-        return (self.workspace.root / self.path(crate)).is_file()
-
-    def library(self, crate: str) -> Library:
-        root = self.workspace.text(self.path(crate))
-        modules = {found[2]: bool(found[1]) for found in MODULE.finditer(root)}
-        # What stands in lib.rt itself has no module.
-        texts = {"": root, **{it: self.workspace.text(self.path(crate, it)) for it in modules}}
-        passed_on: dict[str, list[str]] = {}
-        for found in PASSED_ON.finditer(root):
-            names = [it.strip() for it in (found[2] or found[3]).split(",")]
-            passed_on.setdefault(found[1], []).extend(filter(None, names))
-        known = Known(texts, {"", *(it for it in modules if modules[it])}, passed_on)
-        found = tuple(it for it in map(known.module, texts) if it.calls)
-        of_others = {it: names for it, names in passed_on.items() if it not in modules}
-        return Library(crate, about(root), of_others, found)
-
-
-class Known:
-    """What can be named from outside a crate, by the texts of its modules, by which of them are
-    public, and by what it passes on of each."""
-
-    def __init__(
-        self, texts: dict[str, str], public: set[str], passed_on: dict[str, list[str]]
-    ) -> None:
-        self.texts = texts
-        self.public = public
-        self.passed_on = passed_on
-        declared = {(it[2], bool(it[1]), name) for name in self.texts for it in self.declared(name)}
-        self.types = {it for it, is_pub, name in declared if is_pub and self.is_known(name, it)}
-        self.hidden = {it for it, _, _ in declared} - self.types
-
-    def declared(self, module: str) -> Iterator[re.Match]:
-        return DECLARED.finditer(self.texts[module])
+    def __init__(self, workspace: Workspace, crate: str) -> None:
+        root = workspace.text(file_of(crate))
+        modules = {name: bool(is_pub) for is_pub, name in MODULE.findall(root)}
+        self.name, self.about = crate, about(root)
+        self.texts = {"": root, **{it: workspace.text(file_of(crate, it)) for it in modules}}
+        self.public = {"", *(it for it in modules if modules[it])}
+        self.names: dict[str, list[str]] = {}
+        for of, names, name in PASSED_ON.findall(root):
+            own = filter(None, map(str.strip, (names or name).split(",")))
+            self.names.setdefault(of, []).extend(own)
+        self.passed_on = {of: names for of, names in self.names.items() if of not in modules}
+        # Each type and trait, and whether it is known outside.
+        self.types: dict[str, bool] = {}
+        for module, text in self.texts.items():
+            for is_pub, name in DECLARED.findall(text):
+                is_known = bool(is_pub) and self.is_known(module, name)
+                self.types[name] = is_known or self.types.get(name, False)
 
     def is_known(self, module: str, name: str) -> bool:
         """Whether a public name of a module is known outside."""
-        return module in self.public or name in self.passed_on.get(module, ())
+        return module in self.public or name in self.names.get(module, ())
 
-    def module(self, name: str) -> Module:
-        text = self.texts[name]
-        return Module(name, about(text), tuple(self.calls(name, text)))
+    def modules(self) -> Iterator[Module]:
+        """The modules with public calls."""
+        for name, text in self.texts.items():
+            calls = tuple(self.calls(name, text))
+            if calls:
+                yield Module(name, about(text), calls)
 
     def calls(self, module: str, text: str) -> Iterator[Call]:
         for it in functions(text):
-            name, of = it.contract.name, type_of(it.block)
+            name = it.contract.name
             if it.block and self.is_known_method(it):
                 by = HAS_TRAIT.match(it.block)
-                yield Call(f"{of}::{name}", by[1] if by else "", it)
+                yield Call(f"{type_of(it.block)}::{name}", by[1] if by else "", it)
             elif not it.block and it.is_pub and self.is_known(module, name):
                 is_by_module = module and module in self.public
                 yield Call(f"{module}::{name}" if is_by_module else name, "", it)
@@ -115,9 +81,13 @@ class Known:
     def is_known_method(self, it: Function) -> bool:
         """Whether a function of a type or a trait is known outside. What a type has by a trait is
         known where both are, and tells no more than the trait where it has no clauses."""
-        if type_of(it.block) not in self.types:
-            return False
         by = HAS_TRAIT.match(it.block)
         if by:
-            return by[2] not in self.hidden and bool(it.contract.clauses)
-        return it.is_pub or bool(TRAIT.match(it.block))
+            is_known = self.types.get(by[2], True) and bool(it.contract.clauses)
+        else:
+            is_known = it.is_pub or it.block.startswith("pub trait ")
+        return is_known and self.types.get(type_of(it.block), False)
+
+
+def about(text: str) -> str:
+    return " ".join(SAID_OF_ALL.findall(text))

@@ -3,10 +3,10 @@ reach."""
 import dataclasses
 import functools
 import re
-from typing import Iterator, Optional
+from typing import Iterator, NamedTuple, Optional
 
 from measures.definitions import Definition, Definitions
-from measures.rattle import Contract, contracts_of_types, functions
+from measures.rattle import Contract, contracts_of
 from measures.workspace import BadWorkspace, Place, Workspace
 
 TABLE = "docs/PROMISES.md"
@@ -19,16 +19,7 @@ QUOTED = re.compile(r"`([^`]+)`")
 ALL_LAWS = "laws"
 
 
-@dataclasses.dataclass(frozen=True)
-class Row:
-    """A row of the table: its line there, and its cells."""
-
-    line: int
-    cells: tuple[str, ...]
-
-
-@dataclasses.dataclass(frozen=True)
-class Named:
+class Named(NamedTuple):
     """A call or a law that a row names: its crate, the types that it may be of, and its name there,
     with its type in front where the row has it. A law without a crate is of any of the row."""
 
@@ -39,10 +30,11 @@ class Named:
 
 @dataclasses.dataclass(frozen=True)
 class Promise:
-    """A row of the table with its crates, the calls and laws that carry it, what the contracts of
-    these reach, and which names are none."""
+    """A row of the table: its line and its cells; its crates, the calls and laws that carry it,
+    what the contracts of these reach, and which names are none."""
 
-    row: Row
+    line: int
+    cells: tuple[str, ...]
     crates: tuple[str, ...]
     calls: tuple[str, ...]
     reached: frozenset[Definition]
@@ -54,65 +46,43 @@ class Promise:
         return sum(it.length for it in self.reached)
 
     @property
-    def place(self) -> Place:
-        """Where it is promised, and what it stands on."""
-        told = f"{len(self.reached)} definitions, {self.length} lines: {self.carried}"
-        return Place(TABLE, self.row.line, told)
-
-    @property
-    def carried(self) -> str:
-        """Which calls of which crates carry it."""
-        return f"{', '.join(self.crates)}: {', '.join(self.calls)}"
-
-    @property
-    def believed(self) -> str:
-        """The files of its own crates that have what it reaches, a line each, and how many files
-        of other crates do."""
+    def due(self) -> tuple[str, ...]:
+        """Its cells as the sources have the last two: the files of its own crates that have what it
+        reaches, and how many files of other crates do; and the lines."""
         files = {(it.crate, it.module) for it in self.reached}
         own = sorted(it for it in files if it[0] in self.crates)
         told = [f"`{crate}/{module.replace('.', '/')}`" for crate, module in own]
-        others = len(files) - len(own)
-        return "<br>".join([*told, *([f"+{others}"] if others else [])])
-
-    @property
-    def cells(self) -> tuple[str, ...]:
-        """Its row, as the sources have its last two cells."""
-        return (*self.row.cells[:-2], self.believed, str(self.length))
-
-    @property
-    def is_stale(self) -> bool:
-        return self.row.cells != self.cells
+        others = [f"+{len(files) - len(own)}"] if len(files) > len(own) else []
+        return (*self.cells[:-2], "<br>".join([*told, *others]), str(self.length))
 
 
-def rows(workspace: Workspace) -> Iterator[Row]:
-    """The rows of the table."""
+def rows(workspace: Workspace) -> Iterator[tuple[int, tuple[str, ...]]]:
+    """The rows of the table: the line and the cells of each."""
     lines = workspace.lines(TABLE)
     begin = lines.index(BEGIN) if BEGIN in lines else len(lines)
     end = lines.index(END, begin) if END in lines[begin:] else len(lines)
-    in_table = [at for at in range(begin, end) if lines[at].startswith("|")]
-    for at in in_table[HEAD:]:
+    for at in [at for at in range(begin, end) if lines[at].startswith("|")][HEAD:]:
         cells = [it.strip() for it in lines[at].strip()[1:-1].split("|")]
         # The last two may still be to be written.
-        if CELLS - 2 <= len(cells) < CELLS:
+        if len(cells) in (CELLS - 2, CELLS - 1):
             cells += [""] * (CELLS - len(cells))
         if len(cells) != CELLS:
             told = f"a row with {len(cells)} cells, where {CELLS} are due"
             raise BadWorkspace(f"{TABLE}:{at + 1}: {told}")
-        yield Row(at + 1, tuple(cells))
+        yield at + 1, tuple(cells)
 
 
 class Promises:
     """What the promises of a workspace stand on."""
 
-    def __init__(self, workspace: Workspace, definitions: Definitions) -> None:
+    def __init__(self, workspace: Workspace) -> None:
         self.workspace = workspace
-        self.definitions = definitions
+        self.definitions = Definitions(workspace)
 
+    @functools.lru_cache(maxsize=None)
     def all(self) -> list[Promise]:
         """Each row of the table, none where the docs have no promises."""
-        if not (self.workspace.root / TABLE).exists():
-            return []
-        found = [self.promise(row) for row in rows(self.workspace)]
+        found = [self.promise(*row) for row in rows(self.workspace)]
         if not found:
             raise BadWorkspace(f"{TABLE} has no table between the lines '{BEGIN}' and '{END}'")
         return found
@@ -121,8 +91,16 @@ class Promises:
         """The page, with the last two cells of each row as the sources have them."""
         lines = self.workspace.lines(TABLE)
         for it in self.all():
-            lines[it.row.line - 1] = f"|{'|'.join(it.cells)}|"
+            lines[it.line - 1] = f"|{'|'.join(it.due)}|"
         return "\n".join([*lines, ""])
+
+    def stale(self) -> Iterator[Place]:
+        """The rows that name what isn't there, and those that `page` changes."""
+        for it in self.all():
+            for name in it.lost:
+                yield Place(TABLE, it.line, f"there is no {name}")
+            if it.due != it.cells:
+                yield Place(TABLE, it.line, "--write-promises changes it")
 
     def named(self, cell: str) -> Iterator[Named]:
         """What a cell names. Behind `agent::Agent::start`, `finish` is one of `Agent` there too."""
@@ -136,16 +114,16 @@ class Promises:
             owners = owners | {owner} if owner else owners
             yield Named(crate, owners, name)
 
-    def promise(self, row: Row) -> Promise:
-        calls, laws = (list(self.named(row.cells[place])) for place in (1, 3))
-        of = tuple(dict.fromkeys(it.crate for it in (*calls, *laws) if it.crate))
-        found = {it: self.roots(it, (it.crate,) if it.crate else of) for it in (*calls, *laws)}
+    def promise(self, line: int, cells: tuple[str, ...]) -> Promise:
+        calls_and_laws = [*self.named(cells[1]), *self.named(cells[3])]
+        crates = tuple(dict.fromkeys(it.crate for it in calls_and_laws if it.crate))
+        found = {it: self.roots(it, (it.crate,) if it.crate else crates) for it in calls_and_laws}
         reached = self.definitions.reached(set().union(*filter(None, found.values())))
         # A law may be one of the definitions of a lower crate.
         known = {it.name for it in reached}
-        lost = [it.name for it, own in found.items() if own is None and it.name not in known]
-        names = dict.fromkeys(it.name for it in found)
-        return Promise(row, of, tuple(names), frozenset(reached), tuple(lost))
+        lost = tuple(it.name for it, own in found.items() if own is None and it.name not in known)
+        names = tuple(dict.fromkeys(it.name for it in found))
+        return Promise(line, cells, crates, names, frozenset(reached), lost)
 
     def roots(self, named: Named, crates: tuple[str, ...]) -> Optional[set[Definition]]:
         """The definitions that a call or a law names by its contract, or that have its name.
@@ -153,7 +131,7 @@ class Promises:
         found: list[Contract] = []
         for crate in crates:
             if named.name == ALL_LAWS:
-                found += self.contracts(crate, ALL_LAWS)
+                found += self.contracts(crate, f"{ALL_LAWS}.rt")
             else:
                 found += called(self.contracts(crate), named.name, named.owners)
         own = {it for it in self.definitions.by_name.get(named.name, ()) if it.crate in crates}
@@ -161,14 +139,10 @@ class Promises:
         return own.union(*by_contracts) if found or own else None
 
     @functools.lru_cache(maxsize=None)
-    def contracts(self, crate: str, file: str = "") -> list[Contract]:
+    def contracts(self, crate: str, file: str = ".rt") -> list[Contract]:
         """The contracts of a crate's code, or of one file of it."""
-        found: list[Contract] = []
-        for path in self.workspace.files(f"crates/{crate}/src", ".rt"):
-            if not file or path.endswith(f"/{file}.rt"):
-                text = self.workspace.text(path)
-                found += [*(it.contract for it in functions(text)), *contracts_of_types(text)]
-        return found
+        paths = self.workspace.files(f"crates/{crate}/src", file)
+        return [it for path in paths for it in contracts_of(self.workspace.text(path))]
 
 
 def called(contracts: list[Contract], call: str, owners: frozenset[str]) -> list[Contract]:

@@ -1,4 +1,5 @@
-"""The functions of the code, read by its layout, which the kit's formatter fixes: what belongs to a block is indented, and its last line is not."""
+"""The functions of the code, read by their layout, which the kit's formatter fixes: what belongs to
+a block is indented, and its last line is not."""
 import dataclasses
 import functools
 import itertools
@@ -9,18 +10,21 @@ from typing import Iterator
 from measures.imports import Import, imports
 
 FUNCTION = re.compile(r"^( *)(pub(?:\(\w+\))? )?(?:(?:const|unsafe|final) )*fn (\w+)")
-BLOCK = re.compile(r"^(?:unsafe )?(?:impl|trait|pub trait|pub\(\w+\) trait)\b.*\{$")
+BLOCK = re.compile(r"^(?:unsafe )?(?:impl|(?:pub(?:\(\w+\))? )?trait)\b.*\{$")
 # `impl<R> Trait for Type<R>` is of Type.
-OF_TYPE = re.compile(r"^(?:unsafe )?(?:impl|(?:pub(?:\(\w+\))? )?trait)(?:<.*?>)? (?:.* for )?&?(\w+)")
-# What a function has to keep, and what a block says of its type: `ensures safe { .. }`, `ghost Value = { .. };`.
-CLAUSE = re.compile(r"^ +(?:requires|ensures|ghost (?!use))[^{]*\{")
-MARK = re.compile(r"[(\[<>\]),]")
-SELF = re.compile(r"\s*&?(?:'\w+ )?(?:mut )?self\b")
+OF_TYPE = re.compile(r"^.*?\b(?:impl|trait)(?:<.*?>)? (?:.* for )?&?(\w+)")
+# What a function has to keep, and what a block says of its type: `ghost Value = { .. };`.
+CLAUSE = re.compile(r"^ +(?:requires|ensures)\b[^{]*", re.MULTILINE)
+OF_BLOCK = re.compile(r"^ +ghost (?!use)[^{]*(\{.*?)(?:^$|\Z)", re.MULTILINE | re.DOTALL)
+# Types with arguments, generics and slices have colons and parentheses of their own.
+NESTED = re.compile(r"<[^<>]*>|\[[^\[\]]*\]")
+PARAMETERS = re.compile(r"\(((?:[^()]|\([^()]*\))*)\)")
 
 
 @dataclasses.dataclass(frozen=True)
 class Contract:
-    """The clauses of a function, or those that a block has of its type: its type and its name, where it has them, and what may be named in it."""
+    """The clauses of a function, or those that a block has of its type: its type and its name,
+    where it has them, and what may be named in it."""
 
     of_type: str
     name: str
@@ -31,18 +35,30 @@ class Contract:
 
 @dataclasses.dataclass(frozen=True)
 class Function:
-    """A function: where it stands, its parameters without `self`, how many lines its body has, and
-    its contract; the first line of its block, whether it says `pub`, what its `///` lines say, and
-    its head with its clauses."""
+    """A function: where it stands, its body and its contract; the first line of its block, whether
+    it says `pub`, what its `///` lines say, and its head with its clauses."""
 
     line: int
-    parameters: int
-    body: int
+    body: str
     contract: Contract
     block: str
     is_pub: bool
     docs: str
     head: str
+
+    @property
+    def lines(self) -> int:
+        """How many lines its body has."""
+        return self.body.count("\n")
+
+    @property
+    def parameters(self) -> int:
+        """How many parameters it has beside `self`: each has one colon."""
+        text, left = "", FUNCTION.sub("", self.head).replace("->", "").replace("::", "")
+        while text != left:
+            text, left = left, NESTED.sub("", left)
+        found = PARAMETERS.match(text)
+        return found[1].count(":") if found else 0
 
 
 @functools.lru_cache(maxsize=None)
@@ -52,25 +68,24 @@ def functions(text: str) -> tuple[Function, ...]:
     outside = outer_imports(lines)
     block, inside, found = "", (), []
     for at, line in enumerate(lines):
-        if line.endswith("{") and BLOCK.match(line):
+        if BLOCK.match(line):
             block, inside = line, tuple(imports(block_of(lines, at)))
         elif line == "}":
             block, inside = "", ()
-        head = FUNCTION.match(line) if "fn " in line else None
+        head = FUNCTION.match(line)
         if head:
             found.append(function(lines, at, head, block, outside + inside))
     return tuple(found)
 
 
-def contracts_of_types(text: str) -> Iterator[Contract]:
-    """What the blocks of a source say of their types, beside what their functions do."""
+def contracts_of(text: str) -> Iterator[Contract]:
+    """The contracts of a source's functions, and what its blocks say of their types."""
+    yield from (it.contract for it in functions(text))
     lines = text.splitlines()
-    outside = outer_imports(lines)
-    for at, line in enumerate(lines):
-        if line.endswith("{") and BLOCK.match(line):
-            block = block_of(lines, at)
-            said = clauses([it for it in block.splitlines() if not re.match(" +(?:requires|ensures)", it)])
-            yield Contract(type_of(line), "", True, said, outside + tuple(imports(block)))
+    for at in (at for at, line in enumerate(lines) if BLOCK.match(line)):
+        block = block_of(lines, at)
+        taken = outer_imports(lines) + tuple(imports(block))
+        yield Contract(type_of(lines[at]), "", True, "\n".join(OF_BLOCK.findall(block)), taken)
 
 
 def outer_imports(lines: list[str]) -> tuple[Import, ...]:
@@ -89,19 +104,26 @@ def block_of(lines: list[str], start: int) -> str:
     return "\n".join(lines[start : end + 1])
 
 
-def function(lines: list[str], start: int, head: re.Match, block: str, taken: tuple[Import, ...]) -> Function:
-    indent, public, name = head.groups()
+def function(
+    lines: list[str], start: int, found: re.Match, block: str, taken: tuple[Import, ...]
+) -> Function:
+    indent, public, name = found.groups()
     end = end_of_head(lines, start, indent)
     # A head that ends with `{` has its body's last line at its own indentation.
-    body = block_of(lines, end).count("\n") - 1 if lines[end].endswith("{") else 0
+    body = block_of(lines, end).splitlines()[1:-1] if lines[end].endswith("{") else []
+    head = re.sub(r"\s*(?:\{\}?|;)$", "", "\n".join(lines[start : end + 1]))
     # What a trait has is as public as the trait.
     is_public = public == "pub " or " for " in block or "trait " in block
-    whole = "\n".join(lines[start : end + 1])
-    contract = Contract(type_of(block), name, is_public, clauses(lines[start : end + 1]), taken)
-    its_head = re.sub(r"\s*(?:\{\}?|;)$", "", textwrap.dedent(whole))
-    count = parameters(whole[head.end() :])
-    its_docs = docs_above(lines, start)
-    return Function(start + 1, count, body, contract, block, public == "pub ", its_docs, its_head)
+    said = "\n".join(CLAUSE.split(head)[1:])
+    return Function(
+        line=start + 1,
+        body="".join(f"{line}\n" for line in body),
+        contract=Contract(type_of(block), name, is_public, said, taken),
+        block=block,
+        is_pub=public == "pub ",
+        docs=docs_above(lines, start),
+        head=textwrap.dedent(head),
+    )
 
 
 def docs_above(lines: list[str], start: int) -> str:
@@ -112,50 +134,10 @@ def docs_above(lines: list[str], start: int) -> str:
 
 
 def end_of_head(lines: list[str], start: int, indent: str) -> int:
-    """The line on which a function's body begins, or on which it ends where it has none: clauses are indented further than the function."""
-    for at in range(start, len(lines)):
-        line = lines[at]
+    """The line on which a function's body begins, or on which it ends where it has none: clauses
+    are indented further than the function."""
+    for at, line in enumerate(lines[start:], start):
         is_outer = line.startswith(indent) and not line.startswith(indent + " ")
-        if (is_outer and line.endswith(("{", "{}", "}"))) or line.endswith(";"):
+        if (is_outer and line.endswith(("{", "}"))) or line.endswith(";"):
             return at
     return len(lines) - 1
-
-
-def parameters(head: str) -> int:
-    """How many parameters a head has behind its function's name, without `self`."""
-    text = head.replace("->", "  ")
-    given, end = parts_in_brackets(text)
-    if text.startswith("<"):
-        # Those were the generics.
-        given, _ = parts_in_brackets(text[end:])
-    return sum(bool(it.strip()) and not SELF.match(it) for it in given)
-
-
-def parts_in_brackets(text: str) -> tuple[list[str], int]:
-    """What stands between the commas of a text's first brackets, and where these end."""
-    depth, begin, parts = 0, 0, []
-    for mark in MARK.finditer(text):
-        if mark[0] in "([<":
-            depth += 1
-            begin = mark.end() if depth == 1 else begin
-        elif mark[0] != ",":
-            depth -= 1
-        if depth == 0 or (depth == 1 and mark[0] == ","):
-            parts.append(text[begin : mark.start()])
-            begin = mark.end()
-        if depth == 0:
-            return parts, begin
-    return parts, len(text)
-
-
-def clauses(lines: list[str]) -> str:
-    """The clauses among these lines, each up to the `}` that belongs to its first `{`."""
-    found: list[str] = []
-    depth = 0
-    for line in lines:
-        begun = CLAUSE.match(line)
-        if begun or depth > 0:
-            text = line[begun.end() :] if begun else line
-            depth = (1 if begun else depth) + text.count("{") - text.count("}")
-            found.append(text)
-    return "\n".join(found)

@@ -1,8 +1,6 @@
 """The files that are measured, and where something stands in them."""
-import bisect
 import dataclasses
 import functools
-import itertools
 import os
 import pathlib
 from typing import Iterator
@@ -26,6 +24,10 @@ class Place:
     def __str__(self) -> str:
         return f"{self.path}:{self.line}: {self.what}"
 
+    def which(self, told: str) -> "Place":
+        """The same place, with more told of it."""
+        return dataclasses.replace(self, what=f"{self.what} {told}")
+
 
 class Workspace:
     """A folder with crates, and with the tools, tests and docs beside them."""
@@ -33,19 +35,24 @@ class Workspace:
     def __init__(self, root: pathlib.Path) -> None:
         self.root = root
         self.paths = sorted(self._paths())
-        self.crates = sorted({path.split("/")[1] for path in self.files("crates") if path.count("/") > 1})
+        in_crates = (path.split("/") for path in self.files("crates"))
+        self.crates = sorted({parts[1] for parts in in_crates if len(parts) > 2})
 
     def _paths(self) -> Iterator[str]:
         for folder, inside, names in os.walk(self.root):
             inside[:] = [name for name in inside if name not in NOT_WRITTEN]
-            above = os.path.relpath(folder, self.root).replace(os.sep, "/")
-            yield from (name if above == "." else f"{above}/{name}" for name in names)
+            above = pathlib.Path(folder).relative_to(self.root)
+            yield from ((above / name).as_posix() for name in names)
 
-    def files(self, folder: str, *endings: str) -> Iterator[str]:
-        """The files under a folder whose names end so, all where no ending is said, in order of their paths."""
-        begin = bisect.bisect_left(self.paths, f"{folder}/")
-        under = itertools.takewhile(lambda path: path.startswith(f"{folder}/"), itertools.islice(self.paths, begin, None))
-        return (path for path in under if path.endswith(endings or ""))
+    def files(self, folder: str, *endings: str) -> list[str]:
+        """The files under a folder whose names end so, or all of them, in order of their paths."""
+        under = (path for path in self.paths if path.startswith(f"{folder}/"))
+        return [path for path in under if path.endswith(endings or "")]
+
+    def of_crates(self, *folders: str) -> list[str]:
+        """The files of code and of definitions in these folders of each crate."""
+        below = [f"crates/{crate}/{folder}" for crate in self.crates for folder in folders]
+        return [path for folder in below for path in self.files(folder, ".rt", ".antt")]
 
     @functools.lru_cache(maxsize=None)
     def text(self, path: str) -> str:

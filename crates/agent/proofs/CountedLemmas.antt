@@ -1,5 +1,7 @@
 -- The bytes of a tape that counts records.
-use Rattle.std.proofs.Common.{◌≡◌, ℕ, ◌+◌, ◌-◌, ◌*◌, ◌/◌, ◌%◌, ◌<◌, ◌≤◌, zero, suc, inl, inr, true, false, List, [], ◌++◌, length, take, get_or, Some, None, refl, sym, ap, subst, ◌∙◌, arith, add-one, append-nil}
+use Rattle.std.proofs.Common.{◌≡◌, ℕ, ◌+◌, ◌-◌, ◌*◌, ◌/◌, ◌%◌, ◌<◌, ◌≤◌, zero, suc, inl, inr, true}
+use Rattle.std.proofs.Common.{false, List, [], ◌++◌, length, take, get_or, Some, None, refl, sym}
+use Rattle.std.proofs.Common.{ap, subst, ◌∙◌, arith, add-one, append-nil}
 use Rattle.std.specs.Prelude.{◌⊎◌}
 use Rattle.std.proofs.Math.Seq.{take-append-add}
 use Rattle.std.proofs.lemmas.Bool.{cases_lt, true≢false}

@@ -116,5 +116,6 @@ module _ (l : List Counter) (a at : ℕ) (gap : IsGapFor l a at) where
       let length_new = length-insert l at (record { agent = a; done = n }) gap.in_range in
       let below : (i : ℕ) → i < at → agent_at new i ≡ agent_at l i = λ i less. ap agent (get_or-insert_below l at (record { agent = a; done = n }) no_counter i less gap.in_range) in
       let here : (i : ℕ) → i ≡ at → agent_at new i ≡ a = λ i same. rw same (ap agent (get_or-insert_at l at (record { agent = a; done = n }) no_counter gap.in_range)) in
-      let above : (i : ℕ) → at < i → agent_at new i ≡ agent_at l (i - 1) = λ i more. subst (λ q. agent_at new q ≡ agent_at l (i - 1)) {x = i - 1 + 1} (omega arith) (ap agent (get_or-insert_above l at (record { agent = a; done = n }) no_counter (i - 1) (omega arith) gap.in_range)) in
+      let above : (i : ℕ) → at < i → agent_at new i ≡ agent_at l (i - 1) = λ i more. subst (λ q. agent_at new q ≡ agent_at l (i - 1)) {x = i - 1 + 1} (omega arith)
+      (ap agent (get_or-insert_above l at (record { agent = a; done = n }) no_counter (i - 1) (omega arith) gap.in_range)) in
       grind (arith, below i, here i, above i, below j, here j, above j, rising i j, rising i (j - 1), rising (i - 1) (j - 1), gap.lesser_before i, gap.greater_after (j - 1))

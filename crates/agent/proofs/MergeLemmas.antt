@@ -1,5 +1,9 @@
 -- What counters come to that are merged with entries.
-use Rattle.std.proofs.Common.{◌≡◌, ◌≢◌, ℕ, zero, suc, ◌+◌, ◌<◌, ◌≤◌, eqb, List, [], ◌∷◌, ◌++◌, length, get_or, take, drop, set, true, false, if◌then◌else◌, Option, Some, None, inl, inr, refl, sym, ap, subst, ◌∙◌, arith, add-one, drop-cons, append_assoc, length-append, length-drop, ◌-◌, take-add, length-take}
+use Rattle.std.proofs.Common.{◌≡◌, ◌≢◌, ℕ, zero, suc, ◌+◌, ◌<◌, ◌≤◌, eqb, List, [], ◌∷◌, ◌++◌}
+use Rattle.std.proofs.Common.{length, get_or, take, drop, set, true, false, if◌then◌else◌, Option}
+use Rattle.std.proofs.Common.{Some, None, inl, inr, refl, sym, ap, subst, ◌∙◌, arith, add-one}
+use Rattle.std.proofs.Common.{drop-cons, append_assoc, length-append, length-drop, ◌-◌, take-add}
+use Rattle.std.proofs.Common.{length-take}
 use Rattle.std.proofs.Math.Seq.{take-append_seam, drop-append_seam}
 use Rattle.std.proofs.lemmas.List.{take-append-drop, drop_all, take_all, take_more_set, drop-set-lt, drop-drop}
 use Rattle.std.proofs.lemmas.List.Sums.{prefix_len_stops}
@@ -24,8 +28,11 @@ Rises least (c ∷ l) = (least ≤ c.agent) × Rises (c.agent + 1) l
 -- a list that rises by places rises along
 rises : (least : ℕ) (l : List Counter) → IsRising l → (0 < length l → least ≤ agent_at l 0) → Rises least l
 rises least [] rising head = tt
-rises least (c ∷ l) rising head =
-    (head (omega arith), rises (c.agent + 1) l (λ i j lt in_range. rising (suc i) (suc j) (omega arith) (omega arith)) (λ some. (let later = rising 0 1 (omega arith) (omega arith) in omega (arith, later))))
+rises least (c ∷ l) rising head = (
+  head (omega arith),
+  rises (c.agent + 1) l (λ i j lt in_range. rising (suc i) (suc j) (omega arith) (omega arith))
+      (λ some. (let later = rising 0 1 (omega arith) (omega arith) in omega (arith, later))),
+)
 
 pub rises_from_0 : (l : List Counter) → IsRising l → Rises 0 l
 rises_from_0 l rising = rises 0 l rising (λ some. omega arith)
@@ -176,7 +183,8 @@ abbrev raised_by : Entry → Option ℕ → Counter
 raised_by e own = record { agent = e.agent; done = max (unwrap_or own 0) e.done }
 
 -- an entry is put in behind the counters of lesser agents
-step : (e : Entry) (rest : List Counter → List Counter) (lesser : List Counter) (own : Option ℕ) (others : List Counter) → AllByRecursion (λ c. c.agent < e.agent) lesser → (own ≡ None → StartsAbove e.agent others)
+step : (e : Entry) (rest : List Counter → List Counter) (lesser : List Counter) (own : Option ℕ) (others : List Counter) → AllByRecursion (λ c. c.agent < e.agent) lesser →
+    (own ≡ None → StartsAbove e.agent others)
     → merged_with e rest (lesser ++ (own_counter e.agent own ++ others)) ≡ lesser ++ (raised_by e own ∷ rest others)
 step e rest [] None [] are_lesser has_gap = ap (λ n. record { agent = e.agent; done = n } ∷ rest []) (omega arith)
 step e rest [] None (c ∷ others) are_lesser has_gap = (let above = has_gap refl in grind (arith, nat_tests, above))
@@ -198,7 +206,8 @@ drop_entry : (es : List Entry) (n : ℕ) (e : Entry) → slice_get es n ≡ Some
 drop_entry es n e there = rw add-one (drop_first es n e there)
 
 -- a step at an entry of a list
-pub merged_step : (es : List Entry) (n : ℕ) (e : Entry) (counters lesser : List Counter) (own : Option ℕ) (others : List Counter) → slice_get es n ≡ Some e → AreParted e.agent counters lesser own others
+pub merged_step : (es : List Entry) (n : ℕ) (e : Entry) (counters lesser : List Counter) (own : Option ℕ) (others : List Counter) → slice_get es n ≡ Some e → AreParted e.agent counters lesser own
+    others
     → merged (drop n es) counters ≡ lesser ++ (raised_by e own ∷ merged (drop (n + 1) es) others)
 merged_step es n e counters lesser own others there parted =
     ap (λ later. merged later counters) (drop_entry es n e there) ∙ step_parted e (drop (n + 1) es) counters lesser own others parted
@@ -208,7 +217,8 @@ pub rising_step : (es : List Entry) (n least : ℕ) (e : Entry) → slice_get es
 rising_step es n least e there rising = (let at = subst (AreRising least) (drop_entry es n e there) rising in (at.0, at.2))
 
 -- the counters that a step makes, and those that it takes up
-pub length-step : (es : List Entry) (n : ℕ) (e : Entry) (counters lesser : List Counter) (own : Option ℕ) (others : List Counter) → slice_get es n ≡ Some e → AreParted e.agent counters lesser own others
+pub length-step : (es : List Entry) (n : ℕ) (e : Entry) (counters lesser : List Counter) (own : Option ℕ) (others : List Counter) → slice_get es n ≡ Some e → AreParted e.agent counters lesser own
+    others
     → length (merged (drop n es) counters) ≡ length lesser + 1 + length (merged (drop (n + 1) es) others)
 length-step es n e counters lesser own others there parted =
     (let same = ap length (merged_step es n e counters lesser own others there parted) in omega (arith, simp length-append at same))
@@ -218,7 +228,8 @@ pub length-parts : (agent : ℕ) (counters lesser : List Counter) (own : Option 
 length-parts agent counters lesser own others parted = (let same = ap length parted.parts in omega (arith, simp length-append at same))
 
 -- what is appended in a step, and what is left
-pub appended : (all grown pushed lesser : List Counter) (y : Counter) (later now total : List Counter) → grown ≡ all ++ lesser → pushed ≡ grown ++ (y ∷ []) → now ≡ lesser ++ (y ∷ later) → all ++ now ≡ total
+pub appended : (all grown pushed lesser : List Counter) (y : Counter) (later now total : List Counter) → grown ≡ all ++ lesser → pushed ≡ grown ++ (y ∷ []) → now ≡ lesser ++ (y ∷ later) → all ++ now ≡
+    total
     → pushed ++ later ≡ total
 appended all grown pushed lesser y later now total grows pushes stepped before =
     ap (λ r. r ++ later) (pushes ∙ ap (λ r. r ++ (y ∷ [])) grows) ∙ append_assoc (all ++ lesser) (y ∷ []) later ∙ append_assoc all lesser (y ∷ later) ∙ ap (λ r. all ++ r) (sym stepped) ∙ before
@@ -254,7 +265,8 @@ module _ (list : List Counter) (next : ℕ) (lesser : List Counter) (x : Counter
       (append_assoc (take next list ++ lesser) (y ∷ []) _ ∙ append_assoc (take next list) lesser _ ∙ ap (λ r. take next list ++ r) (sym stepped) ∙ before)
 
 -- a step over an agent without a counter would make the list longer
-pub none_missing : (es : List Entry) (n : ℕ) (e : Entry) (list : List Counter) (next : ℕ) (lesser : List Counter) (own : Option ℕ) (others old : List Counter) → slice_get es n ≡ Some e → next ≤ length list → AreParted e.agent (drop next list) lesser own others → own ≡ None
+pub none_missing : (es : List Entry) (n : ℕ) (e : Entry) (list : List Counter) (next : ℕ) (lesser : List Counter) (own : Option ℕ) (others old : List Counter) → slice_get es n ≡ Some e → next ≤ length
+    list → AreParted e.agent (drop next list) lesser own others → own ≡ None
     → length (merged es old) ≡ length old → length list ≡ length old → take next list ++ merged (drop n es) (drop next list) ≡ merged es old → ⊥
 none_missing es n e list next lesser own others old there within parted none known same_length raised =
     let stepped = length-step es n e (drop next list) lesser own others there parted in

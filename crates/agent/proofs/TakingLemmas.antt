@@ -105,7 +105,8 @@ module _ {T : Type 0} (seen : T → TapeState) (tt : Timetable) (a : AgentOn T) 
   -- what raises the counters is kept
   pub taken : (known : ℕ) → known ≡ known_in heard t.message.sender → Raises a.heard heard t.message.entries → TakesTelling seen tt a (record a { heard = heard }) t (Ok (t.message.sender, known))
   taken known is raises = record {
-    state = subst (λ o. MatchOption o (Keeps (state_of seen a) (state_of seen (record a { heard = heard })) t.message (Ok (t.message.sender, known))) (Refuses (state_of seen a) (state_of seen (record a { heard = heard })) (Ok (t.message.sender, known))))
+    state = subst (λ o. MatchOption o (Keeps (state_of seen a) (state_of seen (record a { heard = heard })) t.message (Ok (t.message.sender, known)))
+        (Refuses (state_of seen a) (state_of seen (record a { heard = heard })) (Ok (t.message.sender, known))))
         (sym none) (ap {A = ℕ} {B = ℕ × ℕ} (λ n. (t.message.sender, n)) is, raises, refl, refl);
     same = refl;
   }

@@ -1,5 +1,8 @@
 -- What an agent tells of its counters.
-use Rattle.std.proofs.Common.{◌≡◌, ◌≢◌, ℕ, zero, suc, ◌+◌, ◌-◌, ◌*◌, ◌/◌, ◌<◌, ◌≤◌, eqb, List, [], ◌∷◌, ◌++◌, length, get_or, take, drop, inl, inr, refl, sym, ap, subst, ◌∙◌, arith, cond, append_assoc, append-nil, length-append, length-drop, add-one, drop-cons}
+use Rattle.std.proofs.Common.{◌≡◌, ◌≢◌, ℕ, zero, suc, ◌+◌, ◌-◌, ◌*◌, ◌/◌, ◌<◌, ◌≤◌, eqb, List, []}
+use Rattle.std.proofs.Common.{◌∷◌, ◌++◌, length, get_or, take, drop, inl, inr, refl, sym, ap, subst}
+use Rattle.std.proofs.Common.{◌∙◌, arith, cond, append_assoc, append-nil, length-append}
+use Rattle.std.proofs.Common.{length-drop, add-one, drop-cons}
 use Rattle.std.specs.Prelude.{flat_map, unwrap_or}
 use Rattle.std.specs.List.{AllByRecursion}
 use Rattle.std.proofs.lemmas.List.{take-append-drop, take_all, drop_all}
@@ -42,7 +45,8 @@ module _ (l : List Counter) (rising : IsRising l) (a at : ℕ) where
   pub around_own : IsCounterAt l a at → AreAround a l (take at l) (take (length l - (at + 1)) (drop (at + 1) l))
   around_own is_at = subst (AreAround a l (take at l)) (sym (all_there l (at + 1))) (record {
     own = get_or l at no_counter ∷ [];
-    parts = sym (take-append-drop at l) ∙ ap (λ r. take at l ++ r) (let in_range = is_at.in_range in rw (add-one, drop-cons l at no_counter)) ∙ sym (append_assoc (take at l) (get_or l at no_counter ∷ []) (drop (at + 1) l));
+    parts = sym (take-append-drop at l) ∙ ap (λ r. take at l ++ r) (let in_range = is_at.in_range in rw (add-one, drop-cons l at no_counter)) ∙ sym
+        (append_assoc (take at l) (get_or l at no_counter ∷ []) (drop (at + 1) l));
     rising = rising;
     are_lesser = first_lesser l a at (λ j lt in_range. (let less = rising j at lt is_at.in_range in omega (arith, less, is_at.is_own)));
     are_own = (is_at.is_own, tt);
@@ -70,7 +74,8 @@ above_rises least from [] [] rising greater = tt
 above_rises least from [] (c ∷ above) rising greater = (omega (arith, greater.0), rising.1)
 
 -- the counters with the agent's own number rise
-whole_rises : (least from done : ℕ) (below own above : List Counter) → least ≤ from → Rises least (below ++ (own ++ above)) → AreLesser from below → AreGreater from above → Rises least (below ++ (mine from done ∷ above))
+whole_rises : (least from done : ℕ) (below own above : List Counter) → least ≤ from → Rises least (below ++ (own ++ above)) → AreLesser from below → AreGreater from above → Rises least
+    (below ++ (mine from done ∷ above))
 whole_rises least from done [] own above le rising lesser greater = (le, above_rises least from own above rising greater)
 whole_rises least from done (c ∷ below) own above le rising lesser greater =
     (rising.0, whole_rises (c.agent + 1) from done below own above (omega (arith, lesser.0)) rising.1 lesser.1 greater)
@@ -114,7 +119,8 @@ entries_of_counters (suc count) first top (c ∷ l) ends rising within =
       | inl less ↦ (
           let none : known_in (c ∷ l) first ≡ 0 = ap (λ o. unwrap_or o 0) (heard_before c.agent (c ∷ l) first (omega arith, rising.1) less) in
           let later = entries_of_counters count (first + 1) top (c ∷ l) (omega arith) (omega arith, rising.1) within in
-          subst (λ n. cond (eqb n 0) (entries_from (known_in (c ∷ l)) (first + 1) count) (record { agent = first; done = n } ∷ entries_from (known_in (c ∷ l)) (first + 1) count) ≡ told_entries (c ∷ l)) (sym none) later
+          subst (λ n. cond (eqb n 0) (entries_from (known_in (c ∷ l)) (first + 1) count) (record { agent = first; done = n } ∷ entries_from (known_in (c ∷ l)) (first + 1) count) ≡ told_entries
+          (c ∷ l)) (sym none) later
           )
       | inr not_less ↦ (
           let own : c.agent ≡ first = omega (arith, rising.0) in
@@ -148,7 +154,8 @@ told-append [] ys = refl
 told-append (c ∷ xs) ys = grind (arith, nat_tests, told-append xs ys)
 
 -- the entries of counters around one, put in three parts
-pub puts_around : (front a b c : List ℕ) (own : Counter) (below above : List Counter) → a ≡ front ++ flat_map entry_bytes (told_entries below) → b ≡ a ++ flat_map entry_bytes (told_entries (own ∷ [])) → c ≡ b ++ flat_map entry_bytes (told_entries above)
+pub puts_around : (front a b c : List ℕ) (own : Counter) (below above : List Counter) → a ≡ front ++ flat_map entry_bytes (told_entries below) → b ≡ a ++ flat_map entry_bytes (told_entries (own ∷ []))
+    → c ≡ b ++ flat_map entry_bytes (told_entries above)
     → c ≡ front ++ flat_map entry_bytes (told_entries (below ++ (own ∷ above)))
 puts_around front a b c own below above puts_below puts_own puts_above =
     let spelled = λ (l : List Counter). flat_map entry_bytes (told_entries l) in
@@ -193,7 +200,8 @@ module _ (from done : ℕ) (counters below above : List Counter) (around : AreAr
       let few = subst (λ l. length l ≤ 65535) told (entries-few (number_told from done (known_in counters)) 0 65535) in
       omega (arith, counted, few)
 
-  pub all_told : (plan agents size : ℕ) (head written : List ℕ) → size ≡ len → from < agents → AreWithin agents counters → head ≡ 0x46 ∷ 2 ∷ (big_endian 2 from ++ big_endian 4 plan ++ big_endian 2 ((len - 10) / 6)) → written ≡ head ++ drop 10 items
+  pub all_told : (plan agents size : ℕ) (head written : List ℕ) → size ≡ len → from < agents → AreWithin agents counters → head ≡ 0x46 ∷ 2 ∷
+      (big_endian 2 from ++ big_endian 4 plan ++ big_endian 2 ((len - 10) / 6)) → written ≡ head ++ drop 10 items
       → IsTold plan (whole_message agents from done (known_in counters)) (take size (written ++ drop (length written) items))
   all_told plan agents size head written same less within heads writes =
       let told = entries_told agents from done counters below above around less within in
@@ -201,6 +209,7 @@ module _ (from done : ℕ) (counters below above : List Counter) (around : AreAr
       let written_length = ap length writes in
       let as_long : length written ≡ len = omega (arith, head_length, length-drop 10 items, has_head, lengths, simp length-append at written_length) in
       let nothing = drop_all (length written) items (omega (arith, as_long, lengths)) in
-      let whole = ap (λ n. take n (written ++ drop (length written) items)) same ∙ ap (λ r. take len (written ++ r)) nothing ∙ ap (take len) (append-nil written) ∙ take_all len written (omega (arith, as_long)) in
+      let whole = ap (λ n. take n (written ++ drop (length written) items)) same ∙ ap (λ r. take len (written ++ r)) nothing ∙ ap (take len) (append-nil written) ∙ take_all len written
+      (omega (arith, as_long)) in
       subst (IsTold plan (whole_message agents from done (known_in counters))) (sym (whole ∙ writes))
       (is_told plan agents from done (known_in counters) _ head (drop 10 items) ((len - 10) / 6) told (omega (arith, counted)) heads (ap (drop 10) puts))

@@ -62,7 +62,8 @@ spelled-again (a ∷ b ∷ c ∷ d ∷ e ∷ []) count same small = absurd (omeg
 pub read-again : (es : List Entry) → AllByRecursion (λ e. e.agent < 2 ^ 16) es → AllByRecursion (λ e. e.done < 2 ^ 32) es → entries_in (flat_map entry_bytes es) ≡ es
 read-again [] agents numbers = refl
 read-again (e ∷ es) agents numbers =
-    ap {A = ℕ} {B = List Entry} (λ n. record { agent = n; done = 65536 * pair_value (e.done / 256 / 256 / 256 % 256) (e.done / 256 / 256 % 256) + pair_value (e.done / 256 % 256) (e.done % 256) } ∷ entries_in (flat_map entry_bytes es)) (pair-of e.agent agents.0)
+    ap {A = ℕ} {B = List Entry} (λ n. record { agent = n; done = 65536 * pair_value (e.done / 256 / 256 / 256 % 256) (e.done / 256 / 256 % 256) + pair_value (e.done / 256 % 256) (e.done % 256) } ∷
+    entries_in (flat_map entry_bytes es)) (pair-of e.agent agents.0)
     ∙ ap {A = ℕ} {B = List Entry} (λ n. record { agent = e.agent; done = n } ∷ entries_in (flat_map entry_bytes es)) (four-of e.done numbers.0)
     ∙ ap {A = List Entry} {B = List Entry} (λ l. e ∷ l) (read-again es agents.1 numbers.1)
 
@@ -123,7 +124,8 @@ told-spelled (b0 ∷ b1 ∷ b2 ∷ b3 ∷ b4 ∷ b5 ∷ b6 ∷ b7 ∷ b8 ∷ b9 
     sym (
     ap (λ n. 0x46 ∷ 2 ∷ (big_endian 2 n ++ big_endian 4 plan ++ big_endian 2 (length (entries_in rest)) ++ flat_map entry_bytes (entries_in rest))) from_is
     ∙ ap (λ l. 0x46 ∷ 2 ∷ (l ++ big_endian 4 plan ++ big_endian 2 (length (entries_in rest)) ++ flat_map entry_bytes (entries_in rest))) (two_bytes b2 b3 (small 2) (small 3))
-    ∙ ap (λ l. 0x46 ∷ 2 ∷ b2 ∷ b3 ∷ (l ++ big_endian 2 (length (entries_in rest)) ++ flat_map entry_bytes (entries_in rest))) (four_bytes b4 b5 b6 b7 plan (small 4) (small 5) (small 6) (small 7) plan_is)
+    ∙ ap (λ l. 0x46 ∷ 2 ∷ b2 ∷ b3 ∷ (l ++ big_endian 2 (length (entries_in rest)) ++ flat_map entry_bytes (entries_in rest)))
+    (four_bytes b4 b5 b6 b7 plan (small 4) (small 5) (small 6) (small 7) plan_is)
     ∙ ap (λ n. 0x46 ∷ 2 ∷ b2 ∷ b3 ∷ b4 ∷ b5 ∷ b6 ∷ b7 ∷ (big_endian 2 n ++ flat_map entry_bytes (entries_in rest))) number
     ∙ ap (λ l. 0x46 ∷ 2 ∷ b2 ∷ b3 ∷ b4 ∷ b5 ∷ b6 ∷ b7 ∷ (l ++ flat_map entry_bytes (entries_in rest))) (two_bytes b8 b9 (small 8) (small 9))
     ∙ ap (λ l. 0x46 ∷ 2 ∷ b2 ∷ b3 ∷ b4 ∷ b5 ∷ b6 ∷ b7 ∷ b8 ∷ b9 ∷ l) spelled

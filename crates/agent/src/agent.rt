@@ -15,6 +15,7 @@ use crate::hearing::refusal_of;
 use crate::message::{Message, read_message};
 use crate::opening::read_records;
 use crate::record::due_record;
+use crate::records::Records;
 use crate::refusal::{HearFault, OpenFault, Refusal, TellFault};
 use crate::tape::{RECORD_LENGTH, Scripted, Tape};
 use crate::telling::{put_told, tell};
@@ -51,7 +52,6 @@ impl<'g, T: Tape> Model for Agent<'g, T> {
 
 impl<'g, T: Tape> Agent<'g, T> {
     ghost use Rattle.std.specs.Prelude.{None};
-    ghost use Rattle.model.specs.Rules.{path_cell};
     ghost use Rattle.model.specs.Messages.{own_message, whole_message, AreRising};
     ghost use Rattle.agent.specs.Agents.{AgentOn, state_of, Moves, Starts, Finishes, Hears};
     ghost use Rattle.agent.specs.Agents.{HearsOf, HearsFrom, IsHolding, Says, bytes_told, TellsAll};
@@ -119,7 +119,7 @@ impl<'g, T: Tape> Agent<'g, T> {
     pub fn restart(&mut self) -> Result<(), OpenFault>
         ensures { Restarts T.state T.may_read self.old self.new result }
     {
-        let records = self.records();
+        let records = self.records().count;
         let plan = self.part.number();
         read_records(&mut self.tape, plan, self.part.agent(), records)?;
         self.forget();
@@ -330,13 +330,7 @@ impl<'g, T: Tape> Agent<'g, T> {
             → IsHolding T.state tt self.now result }
         ensures within { IsOfGraph self.now.part }
     {
-        let records = self.records();
-        let at = self.path_cell(records / 2);
-        if records % 2 == 1 {
-            Held::Between(at, self.path_cell(records / 2 + 1))
-        } else {
-            Held::At(at)
-        }
+        self.records().held(&self.part)
     }
 
     /// How many moves are finished, by the whole records.
@@ -344,14 +338,14 @@ impl<'g, T: Tape> Agent<'g, T> {
         ensures finished_moves { result ≡ finished_moves (state_of T.state self.now) }
         ensures within { IsOwn self.now.part (T.state self.now.tape) }
     {
-        self.records() / 2
+        self.records().done()
     }
 
     /// Whether it has begun a move and not finished it, by the whole records.
     pub fn is_moving(&self) -> bool
         ensures { result ≡ is_on_the_way (state_of T.state self.now) }
     {
-        self.records() % 2 == 1
+        self.records().is_moving()
     }
 
     /// How many of the moves behind those that it has begun, so many at the most, the agent would
@@ -381,8 +375,7 @@ impl<'g, T: Tape> Agent<'g, T> {
         ensures begun { result ≡ begun_moves (state_of T.state self.now) }
         ensures within { IsOwn self.now.part (T.state self.now.tape) }
     {
-        let records = self.records();
-        records / 2 + records % 2
+        self.records().begun()
     }
 
     /// Whether a write has failed since the tape was opened.
@@ -452,8 +445,9 @@ impl<'g, T: Tape> Agent<'g, T> {
         ensures { (tt : Timetable) (is : IsPartOf tt self.old.part)
             → Moves T.state T.may_write tt is.track None self.old self.new result }
     {
-        let number = self.records();
-        let cell = self.path_cell(number / 2 + 1);
+        let records = self.records();
+        let cell = records.next_cell(&self.part);
+        let number = records.count;
         let record = due_record(self.part.number(), self.id(), number);
         if self.tape.write_at(RECORD_LENGTH * number, &record).is_err() {
             self.broken = true;
@@ -463,27 +457,19 @@ impl<'g, T: Tape> Agent<'g, T> {
     }
 
     /// How many whole records there are.
-    fn records(&self) -> u32
-        ensures records { result ≡ whole_records (T.state self.now.tape) }
+    fn records(&self) -> Records
+        ensures records { result.count ≡ whole_records (T.state self.now.tape) }
         ensures within { IsOwn self.now.part (T.state self.now.tape) }
     {
-        self.tape.len() / RECORD_LENGTH
+        Records {
+            count: self.tape.len() / RECORD_LENGTH,
+        }
     }
 
     fn moves(&self) -> u32
         ensures { result ≡ length self.now.part.needs }
     {
         self.part.own_moves()
-    }
-
-    /// A cell of the path.
-    fn path_cell(&self, index: u32) -> Cell
-        requires { index ≤ length self.now.part.needs }
-        ensures cell { (tt : Timetable) (is : IsPartOf tt self.now.part)
-            → result ≡ path_cell is.track index }
-        ensures within { IsOfGraph self.now.part }
-    {
-        self.part.cell(index).unwrap()
     }
 }
 

@@ -9,7 +9,7 @@ use model::Entry;
 pub(crate) const ENTRY_LENGTH: usize = 6;
 
 /// Entries, as bytes spell them or as a list.
-#[derive(Clone, Copy, Debug)]
+#[derive(Clone, Copy)]
 pub(crate) enum Entries<'a> {
     Spelled(&'a [u8]),
     Listed(&'a [Entry]),

@@ -6,7 +6,7 @@ ghost use Rattle.agent.specs.Code.Differences.{IsDifference};
 use crate::tape::RECORD_SIZE;
 
 /// What a record says else than the one that is due, by the first difference that matters.
-#[derive(Clone, Copy, Debug, PartialEq, Eq)]
+#[derive(Clone, Copy, PartialEq, Eq)]
 pub(crate) enum Difference {
     Damaged,
     WrongPlan,

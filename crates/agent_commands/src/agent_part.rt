@@ -40,7 +40,7 @@ fn own_part(
 }
 
 /// What an agent needs of a plan, and on what terms its tape is taken.
-#[derive(Debug, Drop)]
+#[derive(Drop)]
 pub(crate) struct PartAndTerms {
     pub(crate) own: OwnPart,
     pub(crate) terms: Terms,

@@ -19,7 +19,7 @@ use tape_claim::TapeClaim;
 use text_io::Counted;
 
 /// What is still to be done to the file beside a tape before the first answer.
-#[derive(Clone, Copy, Debug, PartialEq, Eq)]
+#[derive(Clone, Copy, PartialEq, Eq)]
 pub(crate) enum PlanTask {
     /// The tape has no record, of which anybody could have heard.
     Nothing,

@@ -27,7 +27,7 @@ const UNMARKED: [u8; 14] = *b"mapf-tape 1 -\n";
 const MARK_PLACE: u64 = 12;
 
 /// The plan of a tape, and whether a record was ever stored on that.
-#[derive(Debug, Drop)]
+#[derive(Drop)]
 pub(crate) struct KeptPlan {
     pub(crate) plan: Plan,
     pub(crate) is_marked: bool,

@@ -12,7 +12,7 @@ use std::rt::Files;
 use tape_claim::TapeClaim;
 
 /// Which file it is: the number of its device, and its own number there.
-#[derive(Clone, Copy, Debug, PartialEq, Eq)]
+#[derive(Clone, Copy, PartialEq, Eq)]
 pub(crate) struct FileId {
     device: u64,
     node: u64,

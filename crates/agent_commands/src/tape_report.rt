@@ -29,7 +29,7 @@ use text_io::{Counted, Sink, WriteFault};
 const TAIL: usize = RECORD_SIZE - 1;
 
 /// Where an agent is by its tape, and how many whole records the file has, and bytes behind them.
-#[derive(Clone, Copy, Debug)]
+#[derive(Clone, Copy)]
 pub(crate) struct TapeReport {
     pub(crate) held: Held,
     pub(crate) done: u32,
@@ -38,7 +38,7 @@ pub(crate) struct TapeReport {
 }
 
 /// The bytes of a file as a tape, and how many bytes the file has.
-#[derive(Debug, Drop)]
+#[derive(Drop)]
 struct TapeImage {
     tape: MemTape,
     len: u32,

@@ -6,7 +6,7 @@ use plan_text::Plan;
 use tape_claim::TapeClaim;
 
 /// What a tape has to be, with the plan that is to be kept beside it.
-#[derive(Debug, Drop)]
+#[derive(Drop)]
 pub(crate) enum Terms {
     Any,
     New(Plan),

@@ -1,8 +1,8 @@
-//! Calling `all_faults`: what is wrong with a plan, beyond its least fault.
+//! Calling `checker`: what is wrong with a plan, beyond its least fault.
 ghost use Rattle.std.specs.Prelude.{IfOk};
-ghost use Rattle.all_faults.specs.AllFaults.{AreFirstFaults};
+ghost use Rattle.checker.specs.AllFaults.{AreFirstFaults};
 
-use all_faults::{Faults, first_faults};
+use checker::{Faults, first_faults};
 use grid::Map;
 use plan::Plan;
 use std::alloc::{AllocError, Global};

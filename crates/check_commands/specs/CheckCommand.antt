@@ -19,7 +19,7 @@ use Rattle.fitting.specs.declared.fit_fault.FitFault.{FitFault}
 use Rattle.fitting.specs.declared.fit_fault.FitFault.TheVariants.{TooFewRows, AgentCount}
 use Rattle.fitting.specs.declared.fit_fault.FitFault.TheVariants.{StartDiffers, GoalDiffers}
 use Rattle.fitting.specs.declared.fit_fault.FitFault.TheVariants.{SizeDiffers}
-use Rattle.all_faults.specs.AllFaults.{AreFirstFaults}
+use Rattle.checker.specs.AllFaults.{AreFirstFaults}
 use Rattle.bounding.specs.Bounding.{AreBounds, BoundsAll, greatest_bound}
 use Rattle.depgraph.specs.Rotations.{AreRotations, Turn}
 use Rattle.least_steps.specs.FaultWords.{step_fault_words}

@@ -1,6 +1,5 @@
 -- What has to be believed, in the order in which to read it: each promise of the crate is made in
--- these words, and in those of
--- `planned`, `bounding`, `all_faults` and `text_commands`.
+-- these words, and in those of `planned`, `checker`, `bounding` and `text_commands`.
 
 -- the words of why a plan is not accepted
 pub mod FaultWords

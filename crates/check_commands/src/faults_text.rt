@@ -11,7 +11,7 @@ ghost use Rattle.check_commands.specs.VerdictText.{rejected_line, turn_text};
 ghost use Rattle.check_commands.specs.FaultsText.{comma, faults_text, of_plan};
 
 use crate::told::{Against, put_told, put_turn};
-use all_faults::Faults;
+use checker::Faults;
 use depgraph::Rotation;
 use ending::{Piece, put_ended};
 use model::PlanFault;
@@ -20,7 +20,7 @@ use text_io::{Counted, Sink, WriteFault};
 
 /// How many faults were listed, how many different agents are named in them, and whether there are
 /// more.
-#[derive(Clone, Copy, Debug)]
+#[derive(Clone, Copy)]
 struct Ends {
     listed: usize,
     agents: u64,

@@ -12,7 +12,7 @@ use std::io::Read;
 use text_io::Counted;
 
 /// A map, and a plan that was checked on it.
-#[derive(Debug, Drop)]
+#[derive(Drop)]
 pub(crate) struct OnMap {
     pub(crate) map: Map,
     pub(crate) checked: Result<CheckedPlan, Rejected>,

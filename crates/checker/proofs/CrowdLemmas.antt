@@ -8,7 +8,10 @@ use Rattle.checker.specs.declared.board.Square.{Square}
 use Rattle.checker.specs.declared.crowd.Walker.{Walker}
 use Rattle.checker.specs.declared.crowd.Turns.{Turns}
 use Rattle.checker.specs.Code.Squares.{ground_in, mark_in, square_at, IsOfStep}
-use Rattle.checker.specs.Code.Crowd.{number_of_act, against_of, turn_by, led_to, walker_at, act_at, comes_to, AreMarks, KeepGrounds, IsAllowed, IsActRefused, IsMarked, AreLed, AreAllowed, AreMarked, AreSuspect, AreMarksOf, AreApart, AreOldMarks}
+use Rattle.checker.specs.Code.Crowd.{number_of_act, against_of, turn_by, led_to, walker_at, act_at}
+use Rattle.checker.specs.Code.Crowd.{comes_to, AreMarks, KeepGrounds, IsAllowed, IsActRefused}
+use Rattle.checker.specs.Code.Crowd.{IsMarked, AreLed, AreAllowed, AreMarked, AreSuspect}
+use Rattle.checker.specs.Code.Crowd.{AreMarksOf, AreApart, AreOldMarks}
 
 small_number : (act : Act) → number_of_act act < 5
 small_number N = omega arith

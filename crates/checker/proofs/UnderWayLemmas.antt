@@ -3,7 +3,7 @@ use Rattle.std.proofs.Common.{◌≡◌, ◌≢◌, ℕ, ◌+◌, pos, ◌+ℤ�
 use Rattle.std.specs.Prelude.{Option, MatchOption, Result, Ok, Err, IfOk, slice_get}
 use Rattle.std.proofs.lemmas.Bool.{cases_lt, cases_eq, cases_order}
 use Rattle.std.proofs.lemmas.Int.{ints}
-use Rattle.std.proofs.lemmas.Option.{slice_get-get_or, slice_get_within, get_or_from_slice_get}
+use Rattle.std.proofs.lemmas.Option.{slice_get-get_or, get_or_from_slice_get}
 use Rattle.std.proofs.lemmas.Nat.{mul-add-lt}
 use Rattle.std.proofs.lemmas.List.{get_or_past}
 use Rattle.grid.specs.declared.cell.Cell.{Cell}
@@ -20,14 +20,15 @@ use Rattle.model.specs.Laws.Places.{same_place}
 use Rattle.checker.specs.declared.board.Square.{Square}
 use Rattle.checker.specs.declared.crowd.Walker.{Walker}
 use Rattle.checker.specs.declared.crowd.Turns.{Turns}
-use Rattle.checker.specs.Code.Standing.{IsOnGrid, AreOnGrid, cell_in, place_in}
-use Rattle.checker.specs.Code.Walking.{AreAt}
+use Rattle.checker.specs.Code.Standing.{IsOnGrid, place_in}
+use Rattle.checker.specs.Code.Walking.{ArePassable}
 use Rattle.checker.specs.Code.Squares.{ground_in, square_at, ground_by, wide_of, place_on, IsOpen, HasGround, IsSquareOf, IsBoard}
 use Rattle.checker.specs.Code.Crowd.{number_of_act, against_of, led_to, walker_at, act_at, comes_to, AreActTurns, KeepGrounds, AreLed, AreAllowed, first_mark, AreMarksOf}
 use Rattle.checker.specs.Code.UnderWay.{IsWalker, IsAtRest, AreUnderWay, AreActs}
-use Rattle.checker.specs.Code.Watching.{IsClean, IsCleanUpTo, IsSeen}
+use Rattle.checker.specs.Code.Watching.{IsClean, IsSeen}
 use Rattle.checker.specs.Laws.Walking.{bad-has_act, beside_by, step_from_legal, legal_from_step, terrain_on, position-moved, position-stays}
 use Rattle.checker.proofs.FaultLemmas.{clean_more}
+use Rattle.checker.proofs.TimeLemmas.{in_cell_clean}
 use Rattle.checker.proofs.BoardLemmas.{from_place, to_place}
 use Rattle.checker.proofs.SquareLemmas.{one_ground}
 use Rattle.checker.proofs.GroundLemmas.{joined_by, grounds_joined}
@@ -365,20 +366,19 @@ wait_from acts step (inl none) = elim (cases_lt step (length acts)) [
 wait_from acts step (inr waits) = get_or_from_slice_get acts step Wait Wait waits
 
 -- by what is known of the agents' cells, where the step is known to have no fault
-pub come_clean : (m : Grid) (p : Plan) (step : ℕ) (turns : Turns) (acts : List Act) (walkers : List Walker) (squares : List Square) (next : List Cell) → IsMap m
-    → AreActTurns (wide_of m) turns → AreUnderWay m p.courses step walkers squares → AreActs p.courses step walkers acts → AreAt p.courses (step + 1) next
-    → AreOnGrid m next → IsClean m p (step + 1 + 1) → AllCome m p.courses step turns acts walkers
-come_clean m p step turns acts walkers squares next is_map h now are at on clean k less =
+pub come_clean : (m : Grid) (p : Plan) (step : ℕ) (turns : Turns) (acts : List Act) (walkers : List Walker) (squares : List Square) → IsMap m
+    → AreActTurns (wide_of m) turns → AreUnderWay m p.courses step walkers squares → AreActs p.courses step walkers acts → ArePassable m p.courses
+    → IsClean m p (step + 1 + 1) → AllCome m p.courses step turns acts walkers
+come_clean m p step turns acts walkers squares is_map h now are passable clean k less =
     let w = now.walkers_are k less in
     let i = (walker_at walkers k).agent in
-    let count = at.count in
-    let is_agent = slice_get_within p.courses i w.course w.is_agent in
-    let v = cell_in next i in
-    let at_v = at.each i w.course w.is_agent in
+    let next = in_cell_clean m p (step + 1) i w.course passable clean w.is_agent in
+    let v = next.cell in
+    let at_v = next.at in
     let act = act_at acts k in
     let is = are k w.course less w.is_agent in
     let moves = leads_back w.course step act w.cell v is w.at at_v in
-    let there = ground_on m v is_map (on i (omega (arith, count, is_agent))) in
+    let there = ground_on m v is_map next.on_map in
     let stays : get_or w.course.acts step Wait ≡ Wait → (walker_at walkers k).ground ≡ there.0 = λ waits. (
     let same : v ≡ w.cell = same_place v w.cell (moves ∙ ap (λ a. moved a (position_of w.cell)) (is ∙ waits)) in
     one_ground m w.cell (walker_at walkers k).ground there.0 w.ground (subst (λ c. HasGround m c there.0) same there.1)
@@ -416,11 +416,12 @@ if_past (Err e) A B P f h = h
 
 pub seen-past : (m : Grid) (p : Plan) (step : ℕ) (turns : Turns) (acts : List Act) (old new : List Walker) (squares after : List Square) → IsMap m
     → AreActTurns (wide_of m) turns → AreUnderWay m p.courses step old squares → AreActs p.courses step old acts → AreLed turns acts old new
-    → KeepGrounds squares after → AreMarksOf (first_mark (step + 1 + 1)) new after → IsCleanUpTo m p (step + 1) → IsSeen m p (step + 1) new after
-seen-past m p step turns acts old new squares after is_map h now are led kept marks past = record {
+    → KeepGrounds squares after → AreMarksOf (first_mark (step + 1 + 1)) new after → ArePassable m p.courses → IsClean m p (step + 1 + 1)
+    → IsSeen m p (step + 1) new after
+seen-past m p step turns acts old new squares after is_map h now are led kept marks passable clean = record {
   under_way = go_on m p.courses step turns acts old new squares after now
-      (come_clean m p step turns acts old squares past.cells is_map h now are past.at past.on_map past.clean) led kept;
-  clean = past.clean;
+      (come_clean m p step turns acts old squares is_map h now are passable clean) led kept;
+  clean = clean;
   marks = marks;
 }
 

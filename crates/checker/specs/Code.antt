@@ -2,7 +2,7 @@
 
 -- the track of an agent, by its acts
 pub mod Tracks
--- where agents stand, as a list of cells, and a table of the agents that were last put in each cell
+-- where agents stand, as a list of cells
 pub mod Standing
 -- where the acts of a step lead, and which agents have one
 pub mod Walking
@@ -18,3 +18,13 @@ pub mod UnderWay
 pub mod Blocks
 -- what a checker has seen up to a time
 pub mod Watching
+-- where agents are, on the map or off it, and where their steps take them
+pub mod Places
+-- which agents take the same step, and which the opposite one
+pub mod Links
+-- the faults that were found up to a key
+pub mod Known
+-- the conflicts of one agent with those after it
+pub mod Rows
+-- marks of agents
+pub mod Marks

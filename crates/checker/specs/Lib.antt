@@ -5,6 +5,8 @@
 pub mod Checking
 -- where agents may start, and where an act leads
 pub mod Moving
+-- the one list of all faults of a plan, and the first of them
+pub mod AllFaults
 -- The code's own words, of which no promise speaks.
 pub mod Code
 -- What follows from these definitions, each with its proof: proofs of other crates cite it, and

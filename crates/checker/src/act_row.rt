@@ -8,7 +8,7 @@ use model::Act;
 use std::marker::Model;
 
 /// The acts of all agents in one step.
-#[derive(Debug, Drop)]
+#[derive(Drop)]
 pub(crate) struct ActRow {
     acts: Vec<Act>,
 }

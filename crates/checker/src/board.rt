@@ -5,7 +5,7 @@ ghost use Rattle.checker.specs.Code.Standing.{IsOnGrid};
 ghost use Rattle.checker.specs.Code.Squares.{ground_in, mark_in, ground_by, most_marks};
 ghost use Rattle.checker.specs.Code.Squares.{place_on, HasGround, IsLaid, IsOfStep};
 
-use grid::{Cell, Map};
+use grid::{Cell, Map, is_land};
 use std::alloc::{AllocError, Global};
 
 /// No agent may come there.
@@ -22,7 +22,7 @@ pub(crate) const NOBODY: u8 = 0;
 
 /// A cell, or a part of the rim: its ground, one of the four above, and the mark of who came last.
 /// It is one byte, since the pace of the checker is that of the memory which it touches.
-#[derive(Clone, Copy, Debug)]
+#[derive(Clone, Copy)]
 pub(crate) struct Square {
     code: u8,
 }
@@ -69,7 +69,7 @@ pub(crate) fn ground_by(character: u8) -> u8
     ensures { result ≡ ground_by character }
 {
     let mut ground = BLOCKED;
-    if matches!(character, b'.' | b'G' | b'S') {
+    if is_land(character) {
         ground = LAND;
     }
     if character == b'W' {

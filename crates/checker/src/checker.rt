@@ -1,4 +1,4 @@
-//! Checks a plan: goes through the times in order, with one table of one entry a cell.
+//! Checks a plan: goes through the times in order, with a board of one byte a cell.
 ghost use Rattle.std.specs.Prelude.{◌≡◌, ◌+◌, ◌^◌, ◌<◌, ◌≤◌, ℕ, length, IfOk, MatchResult};
 ghost use Rattle.model.specs.declared.act.Act.TheVariants.{Wait as wait};
 ghost use Rattle.checker.specs.Checking.{IsCheckOf, IsRefusedFor};
@@ -14,7 +14,7 @@ use crate::block::{hold, line_up, rows, turn};
 use crate::board::{Square, board};
 use crate::checked_plan::CheckedPlan;
 use crate::crowd::{Turns, Walker, take_step};
-use crate::explaining::{fault_at_start, fault_in_step};
+use crate::finding::fault_at;
 use crate::moving::bad_start;
 use crate::resting::timetable_of;
 use crate::stretch::BLOCK;
@@ -174,7 +174,7 @@ impl Checker<'_> {
     {
         let turns = Turns::new(self.map.width() + 2, first_mark(step));
         if take_step(&turns, acts, walkers, squares) {
-            fault_in_step(self.alloc, self.map, self.plan, step)
+            fault_at(self.alloc, self.map, self.plan, step + 1)
         } else {
             Ok(None)
         }
@@ -201,7 +201,7 @@ impl Checker<'_> {
     {
         let turns = Turns::new(self.map.width() + 2, first_mark(1));
         if take_step(&turns, waits, walkers, squares) {
-            fault_at_start(self.alloc, self.map, self.plan)
+            fault_at(self.alloc, self.map, self.plan, 0)
         } else {
             Ok(None)
         }

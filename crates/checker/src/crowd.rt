@@ -9,7 +9,7 @@ use crate::board::{NOBODY, Square};
 use model::Act;
 
 /// An agent under way.
-#[derive(Clone, Copy, Debug)]
+#[derive(Clone, Copy)]
 pub(crate) struct Walker {
     /// The square in which it is.
     pub(crate) place: u32,
@@ -19,7 +19,7 @@ pub(crate) struct Walker {
 }
 
 /// What an act does in a step.
-#[derive(Clone, Copy, Debug)]
+#[derive(Clone, Copy)]
 pub(crate) struct Turn {
     /// The place grows by the one, and falls by the other.
     pub(crate) ahead: u32,
@@ -31,7 +31,7 @@ pub(crate) struct Turn {
 }
 
 /// What each act does in a step, and the least mark of the step.
-#[derive(Clone, Copy, Debug)]
+#[derive(Clone, Copy)]
 pub(crate) struct Turns {
     first: u8,
     by_act: [Turn; 5],

@@ -1,14 +1,11 @@
 //! Whether agents may start where they do, and where acts lead.
 ghost use Rattle.std.specs.Prelude.{◌≡◌, ◌<◌, ◌≤◌, ◌↔◌, length, IsTrue, MatchOption};
-ghost use Rattle.grid.specs.Map.{terrain_at, AreJoined};
-ghost use Rattle.model.specs.Plan.{IsPassable};
 ghost use Rattle.plan_text.specs.Limits.{most_agents};
 ghost use Rattle.checker.specs.Moving.{IsOnGrid, IsFirst, ArePassable};
 ghost use Rattle.checker.specs.Moving.{HasBadStart, IsMoved, cell_by};
-ghost use Rattle.checker.specs.Code.Walking.{LeadsBeside, is_land_character, joins_by};
+ghost use Rattle.checker.specs.Code.Walking.{LeadsBeside};
 
-use crate::meeting::place_of;
-use grid::{Cell, Map, Terrain};
+use grid::{Cell, Map, are_joined};
 use model::Act;
 use plan_text::Course;
 
@@ -19,21 +16,11 @@ pub fn bad_start(map: &Map, courses: &[Course]) -> Option<u32>
         (IsFirst (HasBadStart map.now courses.now)) }
 {
     for agent in 0..courses.len() {
-        if !is_passable(map, courses[agent].start()) {
+        if !map.is_passable(courses[agent].start()) {
             return Some(agent as u32);
         }
     }
     None
-}
-
-/// Whether the cell is on the map and isn't blocked.
-fn is_passable(map: &Map, cell: Cell) -> bool
-    ensures { IsTrue result ↔ IsPassable map.now cell }
-{
-    matches!(
-        map.terrain(cell),
-        Some(Terrain::Floor | Terrain::Grass | Terrain::Swamp | Terrain::Water)
-    )
 }
 
 /// The cell to which the act leads, if it is a wait or a legal step.
@@ -77,34 +64,6 @@ fn beside(from: Cell, act: Act) -> Cell
         to.x = from.x.wrapping_sub(1);
     }
     to
-}
-
-/// Whether the terrain of the one cell joins that of the other, if there is such a cell.
-fn are_joined(map: &Map, from: Cell, to: Cell) -> bool
-    requires { IsOnGrid map.now from }
-    ensures { IsTrue result ↔ AreJoined (terrain_at map.now from) (terrain_at map.now to) }
-{
-    if u32::from(to.x) >= map.width() || u32::from(to.y) >= map.height() {
-        return false;
-    }
-    let characters = map.characters();
-    joins(
-        characters[place_of(map, from)],
-        characters[place_of(map, to)],
-    )
-}
-
-/// Whether a straight step may lead from the terrain of the one character to that of the other.
-fn joins(from: u8, to: u8) -> bool
-    ensures { result ≡ joins_by from to }
-{
-    (is_land(from) && is_land(to)) || (from == b'W' && to == b'W')
-}
-
-fn is_land(character: u8) -> bool
-    ensures { result ≡ is_land_character character }
-{
-    matches!(character, b'.' | b'G' | b'S')
 }
 
 /// The cell to which an act leads, on a map that is large enough. It adds and takes away, and asks

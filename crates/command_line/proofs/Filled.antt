@@ -11,7 +11,16 @@ use Rattle.clap.specs.Takes.{is_given}
 use Rattle.clap.specs.Words.{Row, Rule, Text}
 use Rattle.clap.specs.declared.builder.value_parser.Reading.{Reading}
 use Rattle.clap.specs.declared.parser.matches.ValueSource.{ValueSource}
-use Rattle.clap.specs.Walk.{at_row, first_of, more_values, nothing_held, rows_after, started, walk, walk_from, with_default, with_values, without, Held, Outcome, done, waits, plain, refused, Step, next, trailing, subcommand, value, Waiting, idle, option, positional, Walk, after_flag, after_step, arg_by_id, arg_by_index, arg_by_long, arg_by_short, bundle, bundle_met, bundle_step, flag_met, has_long, has_short, is_pending, long_met, long_or_other, option_met, option_word, plain_word, pushed, reacted, attached_value, settled, settled_rows, short_met, short_or_plain, takes_values, subcommand_met, subcommand_or_other, takes_several, to_positional, used, used_by_id, walked, walked_from, word_met}
+use Rattle.clap.specs.Walk.{at_row, first_of, more_values, nothing_held, rows_after, started, walk}
+use Rattle.clap.specs.Walk.{walk_from, with_default, with_values, without, Held, Outcome, done}
+use Rattle.clap.specs.Walk.{waits, plain, refused, Step, next, trailing, subcommand, value, Waiting}
+use Rattle.clap.specs.Walk.{idle, option, positional, Walk, after_flag, after_step, arg_by_id}
+use Rattle.clap.specs.Walk.{arg_by_index, arg_by_long, arg_by_short, bundle, bundle_met}
+use Rattle.clap.specs.Walk.{bundle_step, flag_met, has_long, has_short, is_pending, long_met}
+use Rattle.clap.specs.Walk.{long_or_other, option_met, option_word, plain_word, pushed, reacted}
+use Rattle.clap.specs.Walk.{attached_value, settled, settled_rows, short_met, short_or_plain}
+use Rattle.clap.specs.Walk.{takes_values, subcommand_met, subcommand_or_other, takes_several}
+use Rattle.clap.specs.Walk.{to_positional, used, used_by_id, walked, walked_from, word_met}
 use Rattle.clap.proofs.SimpleLemmas.{is_false}
 use Rattle.clap.proofs.WalkLemmas.{both}
 

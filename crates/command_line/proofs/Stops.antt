@@ -6,7 +6,11 @@ use Rattle.std.specs.Str.{bytes_eq}
 use Rattle.clap.specs.Lexer.{long_of, short_of}
 use Rattle.clap.specs.Simple.{Shape}
 use Rattle.clap.specs.Takes.{other_passes, walk_passes, word_passes}
-use Rattle.clap.specs.Walk.{Held, Names, Outcome, done, waits, plain, refused, Rule, Text, Waiting, idle, option, positional, Walk, after_flag, after_step, answers_to, arg_by_index, arg_by_long, bundle, long_met, long_or_other, plain_word, short_or_plain, subcommand_met, subcommand_or_other, to_positional, trailing, walked, walked_from, word_met}
+use Rattle.clap.specs.Walk.{Held, Names, Outcome, done, waits, plain, refused, Rule, Text, Waiting}
+use Rattle.clap.specs.Walk.{idle, option, positional, Walk, after_flag, after_step, answers_to}
+use Rattle.clap.specs.Walk.{arg_by_index, arg_by_long, bundle, long_met, long_or_other, plain_word}
+use Rattle.clap.specs.Walk.{short_or_plain, subcommand_met, subcommand_or_other, to_positional}
+use Rattle.clap.specs.Walk.{trailing, walked, walked_from, word_met}
 use Rattle.clap.proofs.WalkLemmas.{both}
 
 -- a walk that stopped did so at a name with P

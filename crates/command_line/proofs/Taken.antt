@@ -26,7 +26,55 @@ abbrev usage : ℕ → Usage
 usage place = unwrap_or (slice_get commands place) (file_command [])
 
 commands_give : AreNamed Gives (names_of program)
-commands_give = (λ other words. command_given (usage 0) words (search rules), (λ other words. command_given (usage 1) words (search rules), (λ other words. command_given (usage 2) words (search rules), (λ other words. command_given (usage 3) words (search rules), (λ other words. command_given (usage 4) words (search rules), (λ other words. command_given (usage 5) words (search rules), (λ other words. command_given (usage 6) words (search rules), (λ other words. command_given (usage 7) words (search rules), (λ other words. command_given (usage 8) words (search rules), (λ other words. command_given (usage 9) words (search rules), (λ other words. command_given (usage 10) words (search rules), (λ other words. command_given (usage 11) words (search rules), (λ other words. command_given (usage 12) words (search rules), (λ other words. command_given (usage 13) words (search rules), (λ other words. command_given (usage 14) words (search rules), (λ other words. command_given (usage 15) words (search rules), (λ other words. command_given (usage 16) words (search rules), (λ other. let bad : true ≡ false = other in cc, tt))))))))))))))))))
+commands_give = (
+  λ other words. command_given (usage 0) words (search rules),
+  (
+    λ other words. command_given (usage 1) words (search rules),
+    (
+      λ other words. command_given (usage 2) words (search rules),
+      (
+        λ other words. command_given (usage 3) words (search rules),
+        (
+          λ other words. command_given (usage 4) words (search rules),
+          (
+            λ other words. command_given (usage 5) words (search rules),
+            (
+              λ other words. command_given (usage 6) words (search rules),
+              (
+                λ other words. command_given (usage 7) words (search rules),
+                (
+                  λ other words. command_given (usage 8) words (search rules),
+                  (
+                    λ other words. command_given (usage 9) words (search rules),
+                    (
+                      λ other words. command_given (usage 10) words (search rules),
+                      (
+                        λ other words. command_given (usage 11) words (search rules),
+                        (
+                          λ other words. command_given (usage 12) words (search rules),
+                          (
+                            λ other words. command_given (usage 13) words (search rules),
+                            (
+                              λ other words. command_given (usage 14) words (search rules),
+                              (
+                                λ other words. command_given (usage 15) words (search rules),
+                                (λ other words. command_given (usage 16) words (search rules), (λ other. let bad : true ≡ false = other in cc, tt)),
+                              ),
+                            ),
+                          ),
+                        ),
+                      ),
+                    ),
+                  ),
+                ),
+              ),
+            ),
+          ),
+        ),
+      ),
+    ),
+  ),
+)
 
 stop_gives : (stop : Option (Text × List Text)) → StopsAt Gives stop → entered_passes program stop ≡ true → is_some (entered program stop) ≡ true
     → IsGiven (entered program stop)

@@ -75,7 +75,8 @@ step-entered c (d ∷ cells) t k less = elim (cases_Bool (same_cell c d)) [
   | inr other ↦ (
       let fewer = subst (λ n. k < n) (cond-false (same_cell c d) (moves_after d cells (length cells)) (moves_after d cells (length cells) + 1) other) less in
       ap (λ l. slice_get l k) (times-moves c d cells t other)
-      ∙ moved (λ j few. step-entered d cells (t + 1) j few) k fewer ∙ ap Some (ap (λ n. t + n) (sym (cond-false (same_cell c d) (step_after d cells k + 1) (if k == 0 then 0 else step_after d cells (k - 1) + 1) other)))
+      ∙ moved (λ j few. step-entered d cells (t + 1) j few) k fewer ∙ ap Some (ap (λ n. t + n)
+      (sym (cond-false (same_cell c d) (step_after d cells k + 1) (if k == 0 then 0 else step_after d cells (k - 1) + 1) other)))
       )
 ] where
   moved : ((j : ℕ) → j < moves_after d cells (length cells) → slice_get (entry_times (Some d) cells (t + 1)) j ≡ Some (t + 1 + step_after d cells j))

@@ -46,7 +46,8 @@ module _ (number : ℕ) (tracks : List Track) (ends : List ℕ) (arrivals : List
   number-within p less = (let all = h.all in h.numbered.known p (omega (arith, less, all)))
 
   pub name-of : (p : ℕ) → p < length arrivals → get_or h.names (get_or h.listed p 0) no_cell ≡ cell_of number tracks ends arrivals step_ends line p
-  name-of p less = (let all = h.all in get_or_from_slice_get h.names (get_or h.listed p 0) (cell_of number tracks ends arrivals step_ends line p) no_cell (h.numbered.named p (omega (arith, less, all))))
+  name-of p less = (let all = h.all in get_or_from_slice_get h.names (get_or h.listed p 0) (cell_of number tracks ends arrivals step_ends line p) no_cell
+      (h.numbered.named p (omega (arith, less, all))))
 
   -- the visit at the place of an arrival by its cell's number
   pub visit-at_rank : (p : ℕ) → p < length arrivals → get_or visits (rank h.listed p) no_visit ≡ visit_at number tracks ends arrivals step_ends line p

@@ -55,7 +55,8 @@ module _ (eq : Cell → Cell → Bool) where
     | inr other ↦ absent k entries (sym (lookup_tail (eq k) e entries other) ∙ none) m c n at hit
   ]
 
-  pub not_found : (names : List Cell) (order : List ℕ) (k : Cell) → eq k k ≡ true → lookup (eq k) (numbered names order) ≡ None → (m n : ℕ) → slice_get order m ≡ Some n → get_or names n no_cell ≡ k → ⊥
+  pub not_found : (names : List Cell) (order : List ℕ) (k : Cell) → eq k k ≡ true → lookup (eq k) (numbered names order) ≡ None → (m n : ℕ) → slice_get order m ≡ Some n → get_or names n no_cell ≡ k →
+      ⊥
   not_found names order k own none m n at is = absent k (numbered names order) none m (get_or names n no_cell) n (numbered-get names order m n at) (ap (eq k) is ∙ own)
 
   module _ (same : (c d : Cell) → eq c d ≡ true → c ≡ d) where

@@ -10,14 +10,19 @@ use Rattle.depgraph.specs.declared.following.Follower.{Follower}
 use Rattle.depgraph.specs.declared.following.Coming.{Coming}
 use Rattle.depgraph.specs.Code.Entries.{begin_in, IsEntry}
 use Rattle.depgraph.specs.Code.Following.{IsMeeting}
-use Rattle.depgraph.specs.Code.Meetings.{AreMeetings, IsNextMeeting, IsComing, AllComing, IsInComings, AreAdded, ComesNextAt, AreAllUnderWay, NobodyComes, block_times, coming_at, coming_by, list_at, entry_next, follower_at, is_under_way, no_coming, no_follower}
+use Rattle.depgraph.specs.Code.Meetings.{AreMeetings, IsNextMeeting, IsComing, AllComing}
+use Rattle.depgraph.specs.Code.Meetings.{IsInComings, AreAdded, ComesNextAt, AreAllUnderWay}
+use Rattle.depgraph.specs.Code.Meetings.{NobodyComes, block_times, coming_at, coming_by, list_at}
+use Rattle.depgraph.specs.Code.Meetings.{entry_next, follower_at, is_under_way, no_coming}
+use Rattle.depgraph.specs.Code.Meetings.{no_follower}
 
 -- ---- elements that pass a test
 
 kept-each : {X : Type 0} (test : X → Bool) (xs : List X) (d : X) (b : ℕ) → b < length (filter test xs) → (j : ℕ) × (j < length xs) × (get_or (filter test xs) b d ≡ get_or xs j d)
 kept-each test [] d b less = absurd (omega (arith, less))
 kept-each {X} test (y ∷ xs) d b less = elim (cases_Bool (test y)) [
-  | inl passes ↦ subst (λ l. b < length l → (j : ℕ) × (j < length (y ∷ xs)) × (get_or l b d ≡ get_or (y ∷ xs) j d)) (sym (cond-true (test y) (y ∷ filter test xs) (filter test xs) passes)) (more (λ k inside. kept-each test xs d k inside) b) less
+  | inl passes ↦ subst (λ l. b < length l → (j : ℕ) × (j < length (y ∷ xs)) × (get_or l b d ≡ get_or (y ∷ xs) j d)) (sym (cond-true (test y) (y ∷ filter test xs) (filter test xs) passes))
+      (more (λ k inside. kept-each test xs d k inside) b) less
   | inr fails ↦ subst (λ l. b < length l → (j : ℕ) × (j < length (y ∷ xs)) × (get_or l b d ≡ get_or (y ∷ xs) j d)) (sym (cond-false (test y) (y ∷ filter test xs) (filter test xs) fails))
       (λ within. (let old = kept-each test xs d b within in (suc old.0, (let j = old.1 in omega (arith, j)), old.2))) less
 ] where

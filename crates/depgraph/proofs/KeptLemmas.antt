@@ -36,7 +36,8 @@ module _ (tt : Timetable) (cells : List Cell) (times ends : List ℕ) (needs : L
   -- ---- routes
 
   -- what an entry of an agent's path tells
-  entry_parts : (i k e : ℕ) → IsEntry ends i k e → (track : Track) × (track_of tt i ≡ Some track) × (k < length (path track)) × (get_or (all_entered tt.tracks) e no_cell ≡ get_or (path track) k no_cell)
+  entry_parts : (i k e : ℕ) → IsEntry ends i k e → (track : Track) × (track_of tt i ≡ Some track) × (k < length (path track)) ×
+      (get_or (all_entered tt.tracks) e no_cell ≡ get_or (path track) k no_cell)
       × (get_or (all_times tt.tracks) e 0 ≡ arrival_time track k)
   entry_parts i k e entry =
       let found = entry_track tt.tracks (all_entered tt.tracks) (all_times tt.tracks) ends h.line.paths i k e entry in
@@ -61,7 +62,8 @@ module _ (tt : Timetable) (cells : List Cell) (times ends : List ℕ) (needs : L
   before_time track k = (let next : k + 1 ≡ suc k = omega arith in ap (arrival_time track) next)
 
   entry_visit_at : (i k e : ℕ) → IsEntry ends i k e → (p : ℕ) × (p < length h.arrivals) × (entry_in ends h.arrivals p ≡ e)
-  entry_visit_at i k e entry = position tt.tracks (all_entered tt.tracks) (all_times tt.tracks) ends h.arrivals (length h.step_ends) h.line.paths h.line.schedule h.line.within e (entry-within tt.tracks (all_entered tt.tracks) (all_times tt.tracks) ends h.line.paths i k e entry)
+  entry_visit_at i k e entry = position tt.tracks (all_entered tt.tracks) (all_times tt.tracks) ends h.arrivals (length h.step_ends) h.line.paths h.line.schedule h.line.within e
+      (entry-within tt.tracks (all_entered tt.tracks) (all_times tt.tracks) ends h.line.paths i k e entry)
 
   -- the time of an entry past the first is one behind the step of the move
   pub kept_time : (i k e : ℕ) → IsEntry ends i (k + 1) e → (track : Track) × (track_of tt i ≡ Some track) × (k < moves track) × (get_or times e 0 ≡ step_of track k + 1)
@@ -154,7 +156,8 @@ module _ (tt : Timetable) (cells : List Cell) (times ends : List ℕ) (needs : L
             let zero_before : r ≡ 0 = omega (arith, none) in
             inl (
               zero_before,
-              cond-true (rank listed p == begin_in visit_ends n) None (Some (get_or visits (rank listed p - 1) no_visit)) (eq-eqb (rank listed p) (begin_in visit_ends n) (omega (arith, begin, is, zero_before))),
+              cond-true (rank listed p == begin_in visit_ends n) None (Some (get_or visits (rank listed p - 1) no_visit))
+                  (eq-eqb (rank listed p) (begin_in visit_ends n) (omega (arith, begin, is, zero_before))),
             )
             )
       ]
@@ -200,7 +203,8 @@ module _ (tt : Timetable) (cells : List Cell) (times ends : List ℕ) (needs : L
             ap (λ n. asked_by (Some n)) (need_none tt.number tt.tracks ends h.arrivals h.step_ends h.line visits visit_ends h.placing h.graphed.conflict_free p i k s track less refl time cell none.0)
             ∙ sym (ap asked_of (sym (ap (λ x. get_or needs x no_wait) at.2) ∙ looked_up p less ∙ ap (wait_of (arrives_at p).agent) none.1))
         | inr some ↦
-            ap (λ n. asked_by (Some n)) (need_some tt.number tt.tracks ends h.arrivals h.step_ends h.line visits visit_ends h.placing h.graphed.conflict_free some.0 p i k s track some.1 less refl time cell some.2)
+            ap (λ n. asked_by (Some n)) (need_some tt.number tt.tracks ends h.arrivals h.step_ends h.line visits visit_ends h.placing h.graphed.conflict_free some.0 p i k s track some.1 less refl time
+            cell some.2)
             ∙ same_asked i (Some (arrives_at some.0))
             ∙ sym (ap asked_of (sym (ap (λ x. get_or needs x no_wait) at.2) ∙ looked_up p less ∙ ap (wait_of (arrives_at p).agent) some.3 ∙ ap (λ j. wait_of j (Some (arrives_at some.0))) agent))
       ])
@@ -261,7 +265,8 @@ module _ (tt : Timetable) (cells : List Cell) (times ends : List ℕ) (needs : L
   pub ends_count : length ends ≡ length tt.tracks
   ends_count = h.line.paths.count
 
-  pub kept_moves : (i : ℕ) → i < length ends → (begin_in ends i + 1 ≤ get_or ends i 0) × (track_of tt i ≡ Some (get_or tt.tracks i no_track)) × (get_or ends i 0 - begin_in ends i - 1 ≡ moves (get_or tt.tracks i no_track))
+  pub kept_moves : (i : ℕ) → i < length ends → (begin_in ends i + 1 ≤ get_or ends i 0) × (track_of tt i ≡ Some (get_or tt.tracks i no_track)) ×
+      (get_or ends i 0 - begin_in ends i - 1 ≡ moves (get_or tt.tracks i no_track))
   kept_moves i less =
       let count = ends_count in
       let within : i < length tt.tracks = omega (arith, less, count) in

@@ -92,7 +92,8 @@ module _ (names new : List Cell) (numbers : List ℕ) (cell : Cell) (n : ℕ) (w
       ∙ ap {A = List Cell} (λ l. l ++ get_or new n no_cell ∷ []) (same_cells names new numbers old (are_known (cells_by names numbers) names numbers was))
       ∙ ap (λ c. cells_by names numbers ++ c ∷ []) (get_or_from_slice_get new n cell no_cell h.is_at) where
         old : (m : ℕ) → m < length names → get_or new m no_cell ≡ get_or names m no_cell
-        old m less = get_or_from_slice_get new m (get_or names m no_cell) no_cell (kept-name (cells_by names numbers) names new numbers cell n h m (get_or names m no_cell) (slice_get-get_or names m no_cell less))
+        old m less = get_or_from_slice_get new m (get_or names m no_cell) no_cell (kept-name (cells_by names numbers) names new numbers cell n h m (get_or names m no_cell)
+            (slice_get-get_or names m no_cell less))
 
   pub numbered-more : AreDistinct new → AreNumbered (cells_by new (numbers ++ n ∷ [])) new (numbers ++ n ∷ [])
   numbered-more distinct =
@@ -100,7 +101,8 @@ module _ (names new : List Cell) (numbers : List ℕ) (cell : Cell) (n : ℕ) (w
         before : AreNumbered (cells_by names numbers ++ cell ∷ []) names numbers
         before = record {
           distinct = was.distinct;
-          named = λ e less. was.named e less ∙ ap Some (sym (get_or_append_left (cells_by names numbers) (cell ∷ []) no_cell e (let long = length-cells_by names numbers in omega (arith, less, long))));
+          named = λ e less. was.named e less ∙ ap Some (sym (get_or_append_left (cells_by names numbers) (cell ∷ []) no_cell e
+              (let long = length-cells_by names numbers in omega (arith, less, long))));
           occurs = was.occurs;
           few = was.few;
         }

@@ -28,7 +28,8 @@ along c cells zero d less = cell_at-start c cells
 along c [] (suc t) d less = absurd (omega (arith, less))
 along c (e ∷ cells) (suc t) d less = along e cells t d (omega (arith, less))
 
-pub cells_along : (tt : Timetable) (i t : ℕ) (d : Cell) → i < length tt.tracks → t < length (cells_of (get_or tt.tracks i no_track)) → Stands tt i t (get_or (cells_of (get_or tt.tracks i no_track)) t d)
+pub cells_along : (tt : Timetable) (i t : ℕ) (d : Cell) → i < length tt.tracks → t < length (cells_of (get_or tt.tracks i no_track)) → Stands tt i t
+    (get_or (cells_of (get_or tt.tracks i no_track)) t d)
 cells_along tt i t d less inside =
     let track = get_or tt.tracks i no_track in
     stands-from tt i t (get_or (cells_of track) t d) track (slice_get-get_or tt.tracks i no_track less) (along track.start track.later t d inside)

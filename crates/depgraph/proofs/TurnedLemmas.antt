@@ -14,13 +14,17 @@ use Rattle.depgraph.proofs.CycleLemmas.{AreCycles, AreFound, cut-links, found-no
 use Rattle.depgraph.proofs.RingLemmas.{map-get, map-from}
 use Rattle.depgraph.proofs.ScheduleLemmas.{begin_most, begin_last}
 use Rattle.depgraph.proofs.VisitLemmas.{entry-within}
-use Rattle.depgraph.proofs.TurnLemmas.{owner, count, entry_count, owner-is, one_entry, are_links, turn, same_time, inside, begun, trail_known, trail_agents, cycle-rotation, round, rotation-cycle, same_turn}
+use Rattle.depgraph.proofs.TurnLemmas.{owner, count, entry_count, owner-is, one_entry, are_links}
+use Rattle.depgraph.proofs.TurnLemmas.{turn, same_time, inside, begun, trail_known, trail_agents}
+use Rattle.depgraph.proofs.TurnLemmas.{cycle-rotation, round, rotation-cycle, same_turn}
 
 module _ (tt : Timetable) (ends : List ℕ) (waits : List Wait) (ahead : List ℕ) (l : AreLaid tt ends waits ahead) where
   all-rotations : (cycles : List (List ℕ)) → AreCycles ahead cycles → AreAllRotations tt (map (turn tt ends waits ahead l) cycles)
   all-rotations cycles c = record {
-    sound = λ n r there. (let found = map-get (turn tt ends waits ahead l) cycles n r there in subst (λ x. IsRotation tt x.step x.agents) found.2 (cycle-rotation tt ends waits ahead l found.0 (c.sound n found.0 found.1)));
-    whole = λ r is. (let found = c.whole (round tt ends waits ahead l r is) (rotation-cycle tt ends waits ahead l r is) in (found.0, map-from (turn tt ends waits ahead l) cycles found.0 (round tt ends waits ahead l r is) found.1 ∙ ap Some (same_turn tt ends waits ahead l r is)));
+    sound = λ n r there. (let found = map-get (turn tt ends waits ahead l) cycles n r there in subst (λ x. IsRotation tt x.step x.agents) found.2
+        (cycle-rotation tt ends waits ahead l found.0 (c.sound n found.0 found.1)));
+    whole = λ r is. (let found = c.whole (round tt ends waits ahead l r is) (rotation-cycle tt ends waits ahead l r is) in
+        (found.0, map-from (turn tt ends waits ahead l) cycles found.0 (round tt ends waits ahead l r is) found.1 ∙ ap Some (same_turn tt ends waits ahead l r is)));
     different = λ n m i r s less at_n at_m step begins other_begins. (
         let a = map-get (turn tt ends waits ahead l) cycles n r at_n in
         let b = map-get (turn tt ends waits ahead l) cycles m s at_m in
@@ -33,7 +37,8 @@ module _ (tt : Timetable) (ends : List ℕ) (waits : List Wait) (ahead : List �
         let begun_b = begun tt ends waits ahead l b.0 other in
         let at_e = same_time tt ends waits ahead l a.0 one 0 e.0 e.1 in
         let at_f = same_time tt ends waits ahead l b.0 other 0 f.0 f.1 in
-        let same = one_entry tt ends waits ahead l e.0 f.0 (inside tt ends waits ahead l a.0 one 0 e.0 e.1) (inside tt ends waits ahead l b.0 other 0 f.0 f.1) (e.2 ∙ sym f.2) (omega (arith, steps, begun_a, begun_b, at_e, at_f)) in
+        let same = one_entry tt ends waits ahead l e.0 f.0 (inside tt ends waits ahead l a.0 one 0 e.0 e.1) (inside tt ends waits ahead l b.0 other 0 f.0 f.1) (e.2 ∙ sym f.2)
+        (omega (arith, steps, begun_a, begun_b, at_e, at_f)) in
         let rises = c.rising n m e.0 f.0 a.0 b.0 less a.1 b.1 e.1 f.1 in
         omega (arith, same, rises)
         );
@@ -56,7 +61,8 @@ module _ (tt : Timetable) (ends : List ℕ) (waits : List Wait) (ahead : List �
   begin_up agent known = begin_most tt.tracks (all_entered tt.tracks) (all_times tt.tracks) ends l.line.paths agent known
 
   last_entry : begin_in ends (length ends) ≡ length ahead
-  last_entry = (let last = begin_last tt.tracks (all_entered tt.tracks) (all_times tt.tracks) ends l.line.paths in let all = count tt ends waits ahead l in let whole = entry_count tt ends waits ahead l in omega (arith, last, all, whole))
+  last_entry = (let last = begin_last tt.tracks (all_entered tt.tracks) (all_times tt.tracks) ends l.line.paths in let all = count tt ends waits ahead l in let whole = entry_count tt ends waits ahead
+      l in omega (arith, last, all, whole))
 
 -- ---- one walk after another
 

@@ -10,7 +10,7 @@ const SCATTER: u64 = 0x9E37_79B9_7F4A_7C15;
 /// A table's group holds twelve entries and nine at most on average, so cells share one by tiles of
 /// 4 x 2: agents that go on to cells beside theirs find the groups that they found before in the
 /// processor's caches. Tiles are scattered, since plans have patterns.
-#[derive(Clone, Copy, Debug)]
+#[derive(Clone, Copy)]
 pub(crate) struct CellHashing;
 
 impl BuildHasher for CellHashing {
@@ -26,7 +26,7 @@ impl BuildHasher for CellHashing {
 }
 
 /// The last two numbers that it was given are a cell's.
-#[derive(Clone, Copy, Debug)]
+#[derive(Clone, Copy)]
 pub(crate) struct CellHasher {
     x: u16,
     y: u16,

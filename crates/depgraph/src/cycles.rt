@@ -14,7 +14,7 @@ const NO_ENTRY: u32 = u32::MAX;
 
 /// What leads from the entry of a move to that of the move that it waits for, if both are made in
 /// one step.
-#[derive(Debug, Drop)]
+#[derive(Drop)]
 pub(crate) struct Links<'a> {
     pub(crate) times: &'a [u16],
     pub(crate) ends: &'a [usize],

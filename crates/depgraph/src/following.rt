@@ -26,7 +26,7 @@ const BLOCKS: usize = 2048;
 
 /// The entries of all paths, and which cells more than one agent comes into, by their numbers. Who
 /// comes into others waits for nobody.
-#[derive(Debug, Drop)]
+#[derive(Drop)]
 pub(crate) struct Meetings<'a> {
     times: &'a [u16],
     ends: &'a [usize],
@@ -35,21 +35,21 @@ pub(crate) struct Meetings<'a> {
 }
 
 /// An agent, and the index in its path of the next cell into which others come too.
-#[derive(Clone, Copy, Debug)]
+#[derive(Clone, Copy)]
 pub(crate) struct Follower {
     agent: u16,
     index: u32,
 }
 
 /// An arrival, and the number of its cell.
-#[derive(Clone, Copy, Debug)]
+#[derive(Clone, Copy)]
 pub(crate) struct Coming {
     number: u32,
     arrival: Arrival,
 }
 
 /// Those who come into shared cells at one time, in any order.
-#[derive(Debug, Drop)]
+#[derive(Drop)]
 pub(crate) struct Comings {
     list: Vec<Coming>,
 }
@@ -95,7 +95,7 @@ impl Comings {
 }
 
 /// Who came last into each shared cell before a time, and what the moves so far wait for.
-#[derive(Debug, Drop)]
+#[derive(Drop)]
 pub(crate) struct Pass {
     time: usize,
     last: Vec<Option<Arrival>>,

@@ -15,7 +15,7 @@ use std::alloc::{AllocError, Global};
 
 /// The plan's number, its paths, what the move into each of their cells waits for, and all visits:
 /// those of each cell stand together and end there.
-#[derive(Debug, Drop)]
+#[derive(Drop)]
 pub(crate) struct Laid {
     pub(crate) number: u32,
     pub(crate) paths: Paths,
@@ -54,7 +54,7 @@ pub(crate) fn lay_out(alloc: Global, plan: &CheckedPlan) -> Result<Laid, AllocEr
 }
 
 /// The plan's number, its paths, and what the move into each of their cells waits for.
-#[derive(Debug, Drop)]
+#[derive(Drop)]
 pub(crate) struct Found {
     pub(crate) number: u32,
     pub(crate) paths: Paths,

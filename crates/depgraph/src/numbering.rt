@@ -10,7 +10,7 @@ use grid::Cell;
 use std::alloc::{AllocError, Global};
 
 /// Cells, one after another, each kept as a number.
-#[derive(Debug, Drop)]
+#[derive(Drop)]
 pub(crate) struct Numbering {
     pub(crate) tiles: Tiles,
     /// For each cell its number.

@@ -15,7 +15,7 @@ use std::marker::Model;
 use text_io::OutOfMemory;
 
 /// What all agents need of a graph, one agent's behind another's.
-#[derive(Clone, Copy, Debug)]
+#[derive(Clone, Copy)]
 pub(crate) struct AllParts<'g> {
     /// The plan's number.
     pub(crate) number: u32,

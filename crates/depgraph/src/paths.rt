@@ -13,7 +13,7 @@ use std::alloc::{AllocError, Global};
 
 /// The paths of all agents, one after another: the numbers of their cells, the time at which each
 /// is entered, and where each agent's end; and the cell with each number.
-#[derive(Debug, Drop)]
+#[derive(Drop)]
 pub(crate) struct Paths {
     pub(crate) numbers: Vec<u32>,
     pub(crate) names: Vec<Cell>,

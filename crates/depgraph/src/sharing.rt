@@ -7,7 +7,7 @@ ghost use Rattle.depgraph.specs.Code.Meetings.{IsOwnerSeen};
 use std::alloc::{AllocError, Global};
 
 /// Who came first into each cell, and whether others came too.
-#[derive(Debug, Drop)]
+#[derive(Drop)]
 pub(crate) struct Owners {
     owners: Vec<Option<u16>>,
     shared: Vec<bool>,

@@ -15,7 +15,7 @@ const SIDE: usize = 16;
 const TILE: usize = SIDE * SIDE;
 
 /// The numbers of a map's cells. Only tiles of which a cell came have room for theirs.
-#[derive(Debug, Drop)]
+#[derive(Drop)]
 pub(crate) struct Tiles {
     /// So many tiles lie side by side.
     across: usize,

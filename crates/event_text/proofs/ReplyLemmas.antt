@@ -3,7 +3,10 @@ use Rattle.std.proofs.Common.{◌≡◌, ℕ, ◌/◌, ◌%◌, List, [], ◌∷
 use Rattle.std.specs.Prelude.{slice_index}
 use Rattle.hex.specs.Hex.{encode_with, encode_lower, lower_digits}
 use Rattle.model.specs.declared.why.Why.{Why}
-use Rattle.model.specs.declared.why.Why.TheVariants.{NoSuchAgent, NoSuchMessage, BadTear, Broken, AlreadyMoving, AtEnd, Waits, NotMoving, StoreFailed, BadLength, BadMagic, BadVersion, BadEntry, WrongPlan, TooMany}
+use Rattle.model.specs.declared.why.Why.TheVariants.{NoSuchAgent, NoSuchMessage, BadTear, Broken}
+use Rattle.model.specs.declared.why.Why.TheVariants.{AlreadyMoving, AtEnd, Waits, NotMoving}
+use Rattle.model.specs.declared.why.Why.TheVariants.{StoreFailed, BadLength, BadMagic, BadVersion}
+use Rattle.model.specs.declared.why.Why.TheVariants.{BadEntry, WrongPlan, TooMany}
 use Rattle.event_text.specs.ReplyText.{refusal_numbers}
 
 -- the digits of both are those of the one and of the other

@@ -54,13 +54,15 @@ module _ (table : Timetable) (a b : AgentOn CountedTape) (message : Message) (an
   taken : a.broken ≡ false → (plan : ℕ) → telling_refusal table (record { plan = plan; message = message }) ≡ None
       → IsTaken table (state_of counted_state a) (state_of counted_state b) (record { plan = plan; message = message }) answer → Gives a b message answer
   taken whole plan none takes =
-      kept whole answer (subst (λ o. MatchOption o (Keeps (state_of counted_state a) (state_of counted_state b) message answer) (Refuses (state_of counted_state a) (state_of counted_state b) answer)) none takes)
+      kept whole answer (subst (λ o. MatchOption o (Keeps (state_of counted_state a) (state_of counted_state b) message answer) (Refuses (state_of counted_state a) (state_of counted_state b) answer))
+      none takes)
 
   refuses-broken : a.broken ≡ true → Refuses (state_of counted_state a) (state_of counted_state b) answer fault.Broken → Gives a b message answer
   refuses-broken broken refuses = inl (broken, refuses.0, same-agent a b same refuses.1)
 
 -- of version 1
-pub from-gives : (table : Timetable) (a b : AgentOn CountedTape) (f : Finished) (answer : Result (ℕ × ℕ) HearFault) → telling_refusal table (record { plan = f.plan; message = own_message f.from f.done }) ≡ None
+pub from-gives : (table : Timetable) (a b : AgentOn CountedTape) (f : Finished) (answer : Result (ℕ × ℕ) HearFault) → telling_refusal table
+    (record { plan = f.plan; message = own_message f.from f.done }) ≡ None
     → HearsFrom counted_state table a b f answer → Gives a b (own_message f.from f.done) answer
 from-gives table a b f answer none hears = by_broken a.broken refl where
   by_broken : (broken : Bool) → a.broken ≡ broken → Gives a b (own_message f.from f.done) answer
@@ -111,7 +113,8 @@ still-from table a b f answer none hears = same-agent a b hears.same (by a.broke
   by true refuses = refuses.1
   by false takes = still-taken table (state_of counted_state a) (state_of counted_state b) (record { plan = f.plan; message = own_message f.from f.done }) answer none takes
 
-pub still-of : (table : Timetable) (a b : AgentOn CountedTape) (message : Message) (answer : Result (ℕ × ℕ) HearFault) → delivered answer ≡ None → HearsOf counted_state table a b message answer → b ≡ a
+pub still-of : (table : Timetable) (a b : AgentOn CountedTape) (message : Message) (answer : Result (ℕ × ℕ) HearFault) → delivered answer ≡ None → HearsOf counted_state table a b message answer → b ≡
+    a
 still-of table a b message answer none hears = same-agent a b hears.same (by (refusal_by message a.broken) hears.state) where
   by : (o : Option HearFault) → Hearing table a b message answer o → state_of counted_state b ≡ state_of counted_state a
   by None takes = still-taken table (state_of counted_state a) (state_of counted_state b) (record { plan = table.number; message = message }) answer none takes
@@ -191,10 +194,12 @@ module _ (r : RunnerState) (h : History) (stands : StandsAt r h) (i : ℕ) (with
       was = of_runs r.version r.timetable h m message stands.run said-there
 
       -- at version 1
-      pub own-gives : (f : Finished) → message ≡ own_message f.from f.done → f.plan ≡ r.timetable.number → ((tt : Timetable) → IsPartOf tt a.part → HearsFrom counted_state tt a b f result) → Gives a b message result
+      pub own-gives : (f : Finished) → message ≡ own_message f.from f.done → f.plan ≡ r.timetable.number → ((tt : Timetable) → IsPartOf tt a.part → HearsFrom counted_state tt a b f result) → Gives a b
+          message result
       own-gives f same plan hears =
           subst (λ x. Gives a b x result) (sym same)
-          (from-gives r.timetable a b f result (none-refused-by r.version r.timetable h m f.plan (own_message f.from f.done) plan (subst (WasSaid r.version r.timetable h m) same was)) (hears r.timetable is.part))
+          (from-gives r.timetable a b f result (none-refused-by r.version r.timetable h m f.plan (own_message f.from f.done) plan (subst (WasSaid r.version r.timetable h m) same was))
+          (hears r.timetable is.part))
 
       -- at version 2
       pub told-gives : r.version ≡ Two → ((f : ℕ → ℕ) (first count : ℕ) → AreRising first (entries_from f first count)) → ((es : List Entry) → AreRising 0 es → wrong_entry 0 0 es ≡ None)

@@ -70,14 +70,16 @@ no-agent r h e stands past =
         conflict_free = stands.conflict_free;
         run = (same, stands.run);
         count = stands.count;
-        members = λ i a there. member-other r.version r.timetable h (record { event = e; answer = refused NoSuchAgent }) i a (λ own. (let within = slice_get_within r.agents i a there in omega (arith, within, own, past))) (stands.members i a there);
+        members = λ i a there. member-other r.version r.timetable h (record { event = e; answer = refused NoSuchAgent }) i a
+            (λ own. (let within = slice_get_within r.agents i a there in omega (arith, within, own, past))) (stands.members i a there);
         messages = stands.messages ∙ sym (append-none (messages r.version r.timetable h) _ (quiet-refusal r.version r.timetable e NoSuchAgent h (known r.version r.timetable h)));
       },
     )
 
 -- an event of one agent, by which no message is said
 pub one-agent : (r : RunnerState) (h : History) (e : Event) (i : ℕ) (b : AgentOn CountedTape) (answered : Answer) → StandsAt r h → agent_of e ≡ i → i < length r.agents
-    → answered ≡ answer r.version r.timetable h e → IsMember r.version r.timetable (record { event = e; answer = answered } ∷ h) i b → messages_of r.version r.timetable e answered h (known r.version r.timetable h) ≡ []
+    → answered ≡ answer r.version r.timetable h e → IsMember r.version r.timetable (record { event = e; answer = answered } ∷ h) i b → messages_of r.version r.timetable e answered h
+    (known r.version r.timetable h) ≡ []
     → StandsAt (record r { agents = set r.agents i b }) (record { event = e; answer = answered } ∷ h)
 one-agent r h e i b answered stands own within rule is quiet = record {
   conflict_free = stands.conflict_free;
@@ -86,9 +88,11 @@ one-agent r h e i b answered stands own within rule is quiet = record {
   members = λ k a there. elim (cases_eq k i) [
     | inl same ↦ (
         let found = same_Some b a (sym (set-at r.agents i b within) ∙ ap (slice_get (set r.agents i b)) (sym same) ∙ there) in
-        subst (λ x. IsMember r.version r.timetable (record { event = e; answer = answered } ∷ h) k x) found (subst (λ j. IsMember r.version r.timetable (record { event = e; answer = answered } ∷ h) j b) (sym same) is)
+        subst (λ x. IsMember r.version r.timetable (record { event = e; answer = answered } ∷ h) k x) found
+        (subst (λ j. IsMember r.version r.timetable (record { event = e; answer = answered } ∷ h) j b) (sym same) is)
         )
-    | inr other ↦ member-other r.version r.timetable h (record { event = e; answer = answered }) k a (λ named. other (sym named ∙ own)) (stands.members k a (sym (set-other r.agents i k b other) ∙ there))
+    | inr other ↦ member-other r.version r.timetable h (record { event = e; answer = answered }) k a (λ named. other (sym named ∙ own))
+        (stands.members k a (sym (set-other r.agents i k b other) ∙ there))
   ];
   messages = stands.messages ∙ sym (append-none (messages r.version r.timetable h) _ quiet);
 }
@@ -144,7 +148,8 @@ tear-refused-on r h stands i n within more =
         run = (rule, stands.run);
         count = stands.count;
         members = λ k a there. elim (cases_eq i k) [
-          | inl same ↦ subst (λ j. IsMember r.version r.timetable (record { event = Tear j n; answer = refused BadTear } ∷ h) k a) (sym same) (tear-refused r.version r.timetable h k n a (stands.members k a there))
+          | inl same ↦ subst (λ j. IsMember r.version r.timetable (record { event = Tear j n; answer = refused BadTear } ∷ h) k a) (sym same)
+              (tear-refused r.version r.timetable h k n a (stands.members k a there))
           | inr other ↦ member-other r.version r.timetable h (record { event = Tear i n; answer = refused BadTear }) k a other (stands.members k a there)
         ];
         messages = stands.messages ∙ sym (append-none (messages r.version r.timetable h) _ refl);
@@ -153,7 +158,8 @@ tear-refused-on r h stands i n within more =
 
 pub tear-on : (r : RunnerState) (h : History) (stands : StandsAt r h) (i n : ℕ) (a b : AgentOn CountedTape) → slice_get r.agents i ≡ Some a → n ≤ 10
     → b ≡ record a { tape = b.tape } → counted_state b.tape ≡ counted_state a.tape → counted_armed b.tape ≡ Some n
-    → CountsFor a.tape.plan a.tape.agent b.tape → (armed ≡ answer r.version r.timetable h (Tear i n)) × StandsAt (record r { agents = set r.agents i b }) (record { event = Tear i n; answer = armed } ∷ h)
+    → CountsFor a.tape.plan a.tape.agent b.tape → (armed ≡ answer r.version r.timetable h (Tear i n)) × StandsAt (record r { agents = set r.agents i b })
+    (record { event = Tear i n; answer = armed } ∷ h)
 tear-on r h stands i n a b there most same state arms whose =
     let count = stands.count in
     let within = slice_get_within r.agents i a there in
@@ -191,7 +197,8 @@ restart-on r h stands i a b what k there reopens holds-by done =
 
 -- ---- what is held
 
-pub held-on : (r : RunnerState) (h : History) (stands : StandsAt r h) (i : ℕ) (a : AgentOn CountedTape) (what : Held) → slice_get r.agents i ≡ Some a → ((tt : Timetable) → IsPartOf tt a.part → IsHolding counted_state tt a what)
+pub held-on : (r : RunnerState) (h : History) (stands : StandsAt r h) (i : ℕ) (a : AgentOn CountedTape) (what : Held) → slice_get r.agents i ≡ Some a →
+    ((tt : Timetable) → IsPartOf tt a.part → IsHolding counted_state tt a what)
     → Some what ≡ option_map (λ track. held track h i) (track_of r.timetable i)
 held-on r h stands i a what there holds-by =
     let is = stands.members i a there in

@@ -20,7 +20,10 @@ use Rattle.executor.specs.declared.ending.Standing.{Standing}
 use Rattle.agent.specs.declared.counted_tape.CountedTape.{CountedTape}
 use Rattle.agent.specs.CountedTape.{counted_state, counted_armed}
 use Rattle.executor.specs.Standing.{IsMember}
-use Rattle.executor.specs.Code.Leading.{EndingState, finished_in, told_in, is_opened_anew, Begins, HasTold, StandsThere, IsUntouched, LeadsThroughTo, LeadsThrough, LeadsOn, IsOf, HasStayed, TeachesNeed, LeadsOnceKnown, HasLeft, HasMoved, AreUnheard}
+use Rattle.executor.specs.Code.Leading.{EndingState, finished_in, told_in, is_opened_anew, Begins}
+use Rattle.executor.specs.Code.Leading.{HasTold, StandsThere, IsUntouched, LeadsThroughTo}
+use Rattle.executor.specs.Code.Leading.{LeadsThrough, LeadsOn, IsOf, HasStayed, TeachesNeed}
+use Rattle.executor.specs.Code.Leading.{LeadsOnceKnown, HasLeft, HasMoved, AreUnheard}
 use Rattle.model.specs.Laws.After.{history-more, accepted-more}
 use Rattle.model.specs.Laws.Ready.{others-ready, comes_to_rest, moves_on, message, speaks_up, learns}
 use Rattle.model.specs.Laws.Runs.{in_step}
@@ -176,7 +179,8 @@ rest-on v h old new i a track x at there its table crew same_messages none_heard
       own : StandsThere v old.timetable end i x
       own = record {
         ready = comes.ready;
-        finished = comes.finished ∙ untouched.begun ∙ sym moved-is ∙ ap (λ n. n + one_if (states.is_on_the_way (state_of counted_state a))) (sym (done-is v old.timetable h begins.run i track (state_of counted_state a) is.stands)) ∙ sym moved;
+        finished = comes.finished ∙ untouched.begun ∙ sym moved-is ∙ ap (λ n. n + one_if (states.is_on_the_way (state_of counted_state a)))
+            (sym (done-is v old.timetable h begins.run i track (state_of counted_state a) is.stands)) ∙ sym moved;
         told = inl untold;
       }
 

@@ -21,7 +21,8 @@ use Rattle.executor.specs.Standing.{IsMember}
 use Rattle.executor.proofs.StoreLemmas.{counts_on, same_tape}
 
 -- a message that is said leaves every agent where it is
-pub say-goes : (v : Version) (table : Timetable) (h : History) (i k : ℕ) (a : AgentOn CountedTape) (r : Answer) → IsMember v table h k a → IsMember v table (record { event = Say i; answer = r } ∷ h) k a
+pub say-goes : (v : Version) (table : Timetable) (h : History) (i k : ℕ) (a : AgentOn CountedTape) (r : Answer) → IsMember v table h k a → IsMember v table (record { event = Say i; answer = r } ∷ h) k
+    a
 say-goes v table h i k a r is = record {
   part = is.part;
   id = is.id;

@@ -23,7 +23,8 @@ heard_of-other (Restart j) r ms i k before other = ap (λ b. cond (b && is_opene
 heard_of-other e r ms i k before other = refl
 
 -- an agent that the event doesn't name stays where it is
-pub member-other : (v : Version) (table : Timetable) (h : History) (now : Happening) (i : ℕ) (a : AgentOn CountedTape) → agent_of now.event ≢ i → IsMember v table h i a → IsMember v table (now ∷ h) i a
+pub member-other : (v : Version) (table : Timetable) (h : History) (now : Happening) (i : ℕ) (a : AgentOn CountedTape) → agent_of now.event ≢ i → IsMember v table h i a → IsMember v table (now ∷ h) i
+    a
 member-other v table h now i a apart is =
     let other = ne_eqb (agent_of now.event) i apart in
     record {

@@ -27,18 +27,21 @@ same-state a b same state = ap (state_of counted_state) same ∙ ap (λ t. recor
 
 -- an armed agent
 pub tear-goes : (v : Version) (table : Timetable) (h : History) (i n : ℕ) (a b : AgentOn CountedTape) → IsMember v table h i a → b ≡ record a { tape = b.tape }
-    → counted_state b.tape ≡ counted_state a.tape → counted_armed b.tape ≡ Some n → CountsFor a.tape.plan a.tape.agent b.tape → IsMember v table (record { event = Tear i n; answer = history.armed } ∷ h) i b
+    → counted_state b.tape ≡ counted_state a.tape → counted_armed b.tape ≡ Some n → CountsFor a.tape.plan a.tape.agent b.tape → IsMember v table
+    (record { event = Tear i n; answer = history.armed } ∷ h) i b
 tear-goes v table h i n a b is same state armed whose = record {
   part = subst (IsPartOf table) (sym (ap (λ x. x.part) same)) is.part;
   id = ap (λ x. x.part.agent) same ∙ is.id;
-  stands = subst (IsLeftBy v table (record { event = Tear i n; answer = history.armed } ∷ h) i) (sym (same-state a b same state)) (tear-at v table h i n i (state_of counted_state a) history.armed is.stands);
+  stands = subst (IsLeftBy v table (record { event = Tear i n; answer = history.armed } ∷ h) i) (sym (same-state a b same state))
+      (tear-at v table h i n i (state_of counted_state a) history.armed is.stands);
   counts = counts_on a b is.counts (ap (λ x. x.part) same) whose;
   armed = armed ∙ sym (own_test i true (Some n) (armed_of h i));
   heard_of = λ j. ap (λ x. is_heard_of x.heard j) same ∙ is.heard_of j;
 }
 
 -- one that was not armed
-pub tear-refused : (v : Version) (table : Timetable) (h : History) (i n : ℕ) (a : AgentOn CountedTape) → IsMember v table h i a → IsMember v table (record { event = Tear i n; answer = refused BadTear } ∷ h) i a
+pub tear-refused : (v : Version) (table : Timetable) (h : History) (i n : ℕ) (a : AgentOn CountedTape) → IsMember v table h i a → IsMember v table
+    (record { event = Tear i n; answer = refused BadTear } ∷ h) i a
 tear-refused v table h i n a is = record {
   part = is.part;
   id = is.id;

@@ -82,7 +82,8 @@ module _ (r : RunnerState) (h : History) (stands : StandsAt r h) (i : ℕ) (a : 
   -- at version 1 how many moves it has finished
   pub own-on : (sender done : ℕ) → r.version ≡ One → a.broken ≡ false → sender ≡ i → done ≡ states.finished_moves (state_of counted_state a)
       → (said (length r.messages) (message_bytes r.timetable.number a.part.agent done) ≡ answer r.version r.timetable h (Say i))
-      × StandsAt (record r { messages = r.messages ++ own_message sender done ∷ [] }) (record { event = Say i; answer = said (length r.messages) (message_bytes r.timetable.number a.part.agent done) } ∷ h)
+      × StandsAt (record r { messages = r.messages ++ own_message sender done ∷ [] }) (record { event = Say i; answer = said (length r.messages) (message_bytes r.timetable.number a.part.agent done) }
+      ∷ h)
   own-on sender done version whole own is_done =
       let finished = is_done ∙ done_is in
       said_on (own_message sender done) (message_bytes r.timetable.number a.part.agent done) whole

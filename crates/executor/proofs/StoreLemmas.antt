@@ -106,7 +106,8 @@ module _ (v : Version) (table : Timetable) (h : History) (i : ℕ) (track : Trac
   goes-by (Some why) moves = moves.state
 
   -- what the tape is then armed with, and whose records it counts
-  leaves : (o : Option Refusal) (of : Cell → Answer) → ((c : Cell) → is_store_failed (of c) ≡ false) → ((why : Refusal) → o ≡ Some why → IsQuiet why) → Moves counted_state counted_writes table track o a b answer
+  leaves : (o : Option Refusal) (of : Cell → Answer) → ((c : Cell) → is_store_failed (of c) ≡ false) → ((why : Refusal) → o ≡ Some why → IsQuiet why) → Moves counted_state counted_writes table track o
+      a b answer
       → (counted_armed b.tape ≡ (if is_store_failed (answered of answer) then None else counted_armed a.tape)) × CountsFor a.tape.plan a.tape.agent b.tape
   leaves (Some why) of fine quiet moves = (
     ap counted_armed moves.tape ∙ sym (ap (λ t. if t then None else counted_armed a.tape) (ap is_store_failed (ap (answered of) moves.state.0) ∙ (quiet why refl).1)),
@@ -116,7 +117,8 @@ module _ (v : Version) (table : Timetable) (h : History) (i : ℕ) (track : Trac
     by : (tear : Option ℕ) → counted_armed a.tape ≡ tear → counted_armed b.tape ≡ (if is_store_failed (answered of answer) then None else counted_armed a.tape)
     by None unarmed =
         let out = comes-out moves None unarmed in
-        (torn-by moves None unarmed).1 ∙ sym unarmed ∙ sym (ap (λ t. if t then None else counted_armed a.tape) (ap is_store_failed (ap (answered of) out.0) ∙ fine (next_cell track (state_of counted_state a))))
+        (torn-by moves None unarmed).1 ∙ sym unarmed ∙ sym (ap (λ t. if t then None else counted_armed a.tape)
+        (ap is_store_failed (ap (answered of) out.0) ∙ fine (next_cell track (state_of counted_state a))))
     by (Some n) armed =
         let out = comes-out moves (Some n) armed in
         (torn-by moves (Some n) armed).1 ∙ sym (ap (λ t. if t then None else counted_armed a.tape) (ap is_store_failed (ap (answered of) out.0)))

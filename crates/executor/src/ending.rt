@@ -34,7 +34,7 @@ pub struct Heard {
 }
 
 /// For whom the needs of another agent's moves were seen last, and the place for it.
-#[derive(Clone, Copy, Debug)]
+#[derive(Clone, Copy)]
 struct Seen {
     agent: Option<u16>,
     place: u32,

@@ -73,12 +73,14 @@ walked-same track i (now ∷ log) kept leaves = elim (cases_eq now.agent i) [
   last-walked : (l : Log) → now.agent ≡ i → walked track (deeds_of (now ∷ l) i) ≡ walked_on now.deed (walked track (deeds_of l i))
   last-walked l own = ap (walked track) (own-deeds now l i own) ∙ walked-more (deeds_of l i) now.deed (track.start ∷ [])
 
-  by_own : now.agent ≡ i → LeavesOut (now ∷ log) kept → ((rest : Log) → LeavesOut log rest → walked track (deeds_of log i) ≡ walked track (deeds_of rest i)) → walked track (deeds_of (now ∷ log) i) ≡ walked track (deeds_of kept i)
+  by_own : now.agent ≡ i → LeavesOut (now ∷ log) kept → ((rest : Log) → LeavesOut log rest → walked track (deeds_of log i) ≡ walked track (deeds_of rest i)) → walked track (deeds_of (now ∷ log) i) ≡
+      walked track (deeds_of kept i)
   by_own own (inl left) before = last-walked log own ∙ still now.deed (walked track (deeds_of log i)) left.0 ∙ before kept left.1
   by_own own (inr goes) before =
       last-walked log own ∙ ap (walked_on now.deed) (before goes.0 goes.2) ∙ sym (last-walked goes.0 own) ∙ sym (ap (λ l. walked track (deeds_of l i)) goes.1)
 
-  by_other : (now.agent ≡ i → ⊥) → LeavesOut (now ∷ log) kept → ((rest : Log) → LeavesOut log rest → walked track (deeds_of log i) ≡ walked track (deeds_of rest i)) → walked track (deeds_of (now ∷ log) i) ≡ walked track (deeds_of kept i)
+  by_other : (now.agent ≡ i → ⊥) → LeavesOut (now ∷ log) kept → ((rest : Log) → LeavesOut log rest → walked track (deeds_of log i) ≡ walked track (deeds_of rest i)) → walked track
+      (deeds_of (now ∷ log) i) ≡ walked track (deeds_of kept i)
   by_other apart (inl left) before = ap (walked track) (other-deeds now log i apart) ∙ before kept left.1
   by_other apart (inr goes) before =
       ap (walked track) (other-deeds now log i apart) ∙ before goes.0 goes.2 ∙ sym (ap (walked track) (other-deeds now goes.0 i apart))

@@ -14,7 +14,10 @@ use Rattle.model.specs.Laws.Tracks.{moves_at-start, moves-leave, moves-rise, mov
 use Rattle.agent.specs.Counters.{known_in}
 use Rattle.agent.specs.declared.counters.Counter.{Counter}
 use Rattle.agent.specs.Decoding.{any_fault}
-use Rattle.agent.specs.States.{State, begun_moves, is_on_the_way, finished_moves, held_by_tape, waits_for, start_refusal, finish_refusal, next_cell, Stores, Answers, IsSaid, IsToldBy, Keeps, Refuses, bytes_refusal, names_nobody, tells_too_many, message_refusal, telling_refusal, IsTaken, IsHeard}
+use Rattle.agent.specs.States.{State, begun_moves, is_on_the_way, finished_moves, held_by_tape}
+use Rattle.agent.specs.States.{waits_for, start_refusal, finish_refusal, next_cell, Stores, Answers}
+use Rattle.agent.specs.States.{IsSaid, IsToldBy, Keeps, Refuses, bytes_refusal, names_nobody}
+use Rattle.agent.specs.States.{tells_too_many, message_refusal, telling_refusal, IsTaken, IsHeard}
 use Rattle.agent.specs.Tellings.{Telling, BytesTell}
 use Rattle.agent.specs.declared.refusal.HearFault.{HearFault}
 use Rattle.agent.specs.declared.refusal.HearFault.TheVariants as fault
@@ -160,7 +163,12 @@ module _ (last by : Timetable) (i : ℕ) (track other : Track) (there : track_of
 
       -- the record of the move was written
       begins : is_on_the_way old ≡ false → waits_for old.heard (need by i track k) ≡ None → new.records ≡ old.records + 1 → Stores old new (next_cell track old) answer → StartsThere new answer
-      begins stands free more stores = (new, subst (λ s. Answers (start_refusal last i other s) s new (next_cell other s) answer) same (subst (λ o. Answers o old new (next_cell other old) answer) (sym none) (subst (λ c. Stores old new c answer) cell stores)), inl refl) where
+      begins stands free more stores = (
+        new,
+        subst (λ s. Answers (start_refusal last i other s) s new (next_cell other s) answer) same
+            (subst (λ o. Answers o old new (next_cell other old) answer) (sym none) (subst (λ c. Stores old new c answer) cell stores)),
+        inl refl,
+      ) where
         begun : begun_moves new ≡ k + 1
         begun = (let standing = begun-standing old stands in let odd : old.records % 2 ≡ 1 → ⊥ = λ e. false≢true (sym stands ∙ eq-eqb (old.records % 2) 1 e) in
             let half : old.records % 2 ≡ 0 = grind (arith, odd) in omega (arith, more, half))
@@ -215,7 +223,12 @@ module _ (last by : Timetable) (i : ℕ) (track other : Track) (there : track_of
       on-way : (b : Bool) → is_on_the_way old ≡ b
           → Answers (if b then Some AlreadyMoving else (if k == moves track then Some AtEnd else waits_for old.heard (need by i track k))) old new (next_cell track old) answer
           → Started new answer
-      on-way true moving refuses = inl (old, subst (λ s. Answers (start_refusal last i other s) s old (next_cell other s) answer) same (subst (λ o. Answers o old old (next_cell other old) answer) (sym refusal) (refuses.0, refl)), inl refuses.1) where
+      on-way true moving refuses = inl (
+        old,
+        subst (λ s. Answers (start_refusal last i other s) s old (next_cell other s) answer) same
+            (subst (λ o. Answers o old old (next_cell other old) answer) (sym refusal) (refuses.0, refl)),
+        inl refuses.1,
+      ) where
         refusal : start_refusal last i other old ≡ Some AlreadyMoving
         refusal = cond-false old.broken _ _ whole ∙ cond-true (is_on_the_way old) _ _ moving
       on-way false stands answers = left-off stands (k == moves track) answers
@@ -245,7 +258,12 @@ module _ (last by : Timetable) (i : ℕ) (track other : Track) (there : track_of
           let none : finish_refusal old ≡ None = cond-false old.broken _ _ whole ∙ cond-true (is_on_the_way old) _ _ moving in
           let begun : finished_moves old + 1 ≤ begun_moves new = within stores.outcome in
           let cell : next_cell track old ≡ next_cell other old = path-same (begun_moves new) shares (finished_moves old + 1) begun in
-          inl (new, subst (λ s. Answers (finish_refusal s) s new (next_cell other s) answer) (whole-same whole) (subst (λ o. Answers o old new (next_cell other old) answer) (sym none) (subst (λ c. Stores old new c answer) cell stores)), inl refl)
+          inl (
+            new,
+            subst (λ s. Answers (finish_refusal s) s new (next_cell other s) answer) (whole-same whole)
+                (subst (λ o. Answers o old new (next_cell other old) answer) (sym none) (subst (λ c. Stores old new c answer) cell stores)),
+            inl refl,
+          )
         where
           odd : old.records % 2 ≡ 1
           odd = eqb-true (old.records % 2) 1 moving
@@ -257,7 +275,12 @@ module _ (last by : Timetable) (i : ℕ) (track other : Track) (there : track_of
           within (inr bad) = elim bad.1 [ inl e ↦ omega (arith, odd, e) | inr e ↦ omega (arith, odd, e) ]
       ends-it whole false stands refuses =
           let refusal : finish_refusal old ≡ Some NotMoving = cond-false old.broken _ _ whole ∙ cond-false (is_on_the_way old) _ _ stands in
-          inl (old, subst (λ s. Answers (finish_refusal s) s old (next_cell other s) answer) (whole-same whole) (subst (λ o. Answers o old old (next_cell other old) answer) (sym refusal) (refuses.0, refl)), inl refuses.1)
+          inl (
+            old,
+            subst (λ s. Answers (finish_refusal s) s old (next_cell other s) answer) (whole-same whole)
+                (subst (λ o. Answers o old old (next_cell other old) answer) (sym refusal) (refuses.0, refl)),
+            inl refuses.1,
+          )
 
       by_broken : (b : Bool) → old.broken ≡ b → Answers (if b then Some Broken else (if is_on_the_way old then None else Some NotMoving)) old new (next_cell track old) answer → Finished new answer
       by_broken true broken refuses = inr (refuses.0, stays-as new refuses.1)

@@ -155,7 +155,8 @@ module _ (v : Version) (table : Timetable) (i : ℕ) (track : Track) (there : tr
     Rule o = (g : History) → IsRun v table g → IsLeftBy v table g i s → agent_answer v table g e track ≡ unless o (stored (armed_of g i) (of cell))
 
     -- the write failed, and stored so many bytes of its record
-    fails : (n : ℕ) → n ≤ 10 → ((why : Refusal) → None ≡ Some why → IsQuiet why) → Rule None → answer ≡ Err StoreFailed → t.records ≡ s.records + (if n == 10 then 1 else 0) → t.heard ≡ s.heard → t.broken ≡ true
+    fails : (n : ℕ) → n ≤ 10 → ((why : Refusal) → None ≡ Some why → IsQuiet why) → Rule None → answer ≡ Err StoreFailed → t.records ≡ s.records + (if n == 10 then 1 else 0) → t.heard ≡ s.heard →
+        t.broken ≡ true
         → Writes e r t (on (walk track h i))
     fails n most quiet rule failed records same broken =
         let g = torn_h n most in
@@ -190,7 +191,8 @@ module _ (v : Version) (table : Timetable) (i : ℕ) (track : Track) (there : tr
   start-on : (t : State) (answer : Result Cell Refusal) → Answers (start_refusal table i track s) s t (next_cell track s) answer
       → Writes (Start i) (answered moving answer) t (walked_on (starts answer) (walk track h i))
   start-on t answer gives =
-      write-goes (Start i) moving (start-stores i) refl (λ g r. refl) (λ r k. same_either (eqb i k && is_store_failed r) None) (next_cell track s) t answer (walked_on (starts answer)) (start_steps answer)
+      write-goes (Start i) moving (start-stores i) refl (λ g r. refl) (λ r k. same_either (eqb i k && is_store_failed r) None) (next_cell track s) t answer (walked_on (starts answer))
+      (start_steps answer)
       (start_refusal table i track s) (quiet-start table i track s) (λ g run_g is_g. start-rule v table g run_g i track s is_g) gives
 
   finish-on : (t : State) (answer : Result Cell Refusal) → Answers (finish_refusal s) s t (next_cell track s) answer → Writes (Finish i) (answered arrived answer) t (walk track h i)

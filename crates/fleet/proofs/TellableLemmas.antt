@@ -14,7 +14,8 @@ count-tracks [] tracks are = ap length are
 count-tracks (course ∷ courses) tracks are = ap length are.2 ∙ ap suc (count-tracks courses are.1 are.4)
 
 module _ (no_longer : (course : Course) (track : Track) → IsTrackOf course track → length track.later ≤ length course.acts) where
-  few-moves : (courses : List Course) (tracks : List Track) (i : ℕ) (track : Track) → AllByRecursion IsCourse courses → AreTracksOf courses tracks → slice_get tracks i ≡ Some track → moves track ≤ 65535
+  few-moves : (courses : List Course) (tracks : List Track) (i : ℕ) (track : Track) → AllByRecursion IsCourse courses → AreTracksOf courses tracks → slice_get tracks i ≡ Some track → moves track ≤
+      65535
   few-moves [] tracks i track limits are there = absurd (none-some track (sym (ap (λ l. slice_get l i) are) ∙ there))
   few-moves (course ∷ courses) tracks i track limits are there = by i (sym (ap (λ l. slice_get l i) are.2) ∙ there) (λ k at. few-moves courses are.1 k track limits.1 are.4 at)
     where

@@ -112,7 +112,8 @@ module _ (tt : Timetable) (turns : List Turn) (found : List Found) (all : length
         let lines = (both-empty (in_turn (unmet_line tt None found) (length tt.tracks)) (in_turn (begun_line tt None found turns) (length turns)) none).0 in
         let line = none-in-turn (unmet_line tt None found) (length tt.tracks) i here lines in
         let nothing : unmet_in tt None found i (Some track) ≡ None = ap (unmet_in tt None found i) (sym there) ∙ no-line i (unmet_in tt None found i (track_of tt i)) line in
-        let first = sym (cond-true (counts None found i) (first_unmet (λ n. unmet_by None found (kept_by_need (finished_by found) (need tt i track n))) (begun_by found i)) None (all-count i track there)) ∙ nothing in
+        let first = sym (cond-true (counts None found i) (first_unmet (λ n. unmet_by None found (kept_by_need (finished_by found) (need tt i track n))) (begun_by found i)) None
+        (all-count i track there)) ∙ nothing in
         let own = none-first (λ n. unmet_by None found (kept_by_need (finished_by found) (need tt i track n))) (begun_by found i) k less first in
         let few = begun-within (slice_get found i) (moves track) (λ records has. within i records track there has) in
         met-of found (need tt i track k) own (λ n is. (let to = planned i k track n there (omega (arith, less, few)) is in all-count n.agent to.0 to.2));

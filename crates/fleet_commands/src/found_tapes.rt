@@ -4,6 +4,7 @@ ghost use Rattle.model.specs.Timetable.{Track, moves, track_of};
 ghost use Rattle.fleet_commands.specs.FoundTapes.{is_known, AreFoundIn, AreWithinMoves};
 ghost use Rattle.fleet_commands.specs.FoundTapes.{IsFoundIn, begun_by, finished_by};
 
+use agent::Records;
 use agent_commands::{AgentFault, open_to_read, read_records};
 use depgraph::Dependencies;
 use robot::FileTapeFault;
@@ -75,7 +76,7 @@ pub(crate) fn finished_by(found: &[Result<u32, AgentFault>], agent: u16) -> u32
     ensures { result ≡ finished_by found.now agent }
 {
     match found.get(usize::from(agent)) {
-        Some(Ok(records)) => *records / 2,
+        Some(Ok(records)) => Records { count: *records }.done(),
         _ => 0,
     }
 }
@@ -85,7 +86,7 @@ pub(crate) fn begun_by(found: &[Result<u32, AgentFault>], agent: u16) -> u32
     ensures { result ≡ begun_by found.now agent }
 {
     match found.get(usize::from(agent)) {
-        Some(Ok(records)) => *records / 2 + *records % 2,
+        Some(Ok(records)) => Records { count: *records }.begun(),
         _ => 0,
     }
 }

@@ -12,12 +12,13 @@ ghost use Rattle.fleet_commands.specs.Standing.{keeper_after, step_from, stuck_c
 ghost use Rattle.fleet_commands.specs.Standing.{waits_of};
 
 use crate::found_tapes::{begun_by, finished_by, is_known};
+use agent::Records;
 use agent_commands::AgentFault;
 use depgraph::{Dependencies, Part, Rotation};
 use std::alloc::{AllocError, Global};
 
 /// What keeps an agent from its next move.
-#[derive(Clone, Copy, Debug)]
+#[derive(Clone, Copy)]
 pub(crate) enum Keeping {
     /// Nobody knows, since no agent is opened on its tape.
     Unknown,
@@ -53,10 +54,11 @@ fn kept_at(part: &Part<'_>, found: &[Result<u32, AgentFault>], records: u32) -> 
     ensures { (tt : Timetable) (is : IsPartOf tt part.now)
         → result ≡ kept_at tt (finished_by found.now) part.now.agent is.track records }
 {
-    if records % 2 == 1 {
+    let records = Records { count: records };
+    if records.is_moving() {
         return Keeping::OwnMove;
     }
-    let done = records / 2;
+    let done = records.done();
     if done < part.own_moves() {
         kept_by_need(part, found, done)
     } else {

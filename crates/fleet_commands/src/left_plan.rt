@@ -20,7 +20,7 @@ use planned::PlanAtHand;
 use std::alloc::{AllocError, Global};
 
 /// How much of its course an agent has behind it.
-#[derive(Clone, Copy, Debug)]
+#[derive(Clone, Copy)]
 struct Ahead {
     /// So many moves are begun.
     begun: u32,

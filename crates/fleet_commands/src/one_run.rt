@@ -20,7 +20,7 @@ use depgraph::{Dependencies, Part, Rotation};
 use std::alloc::AllocError;
 
 /// An agent, and how many moves it should have finished before a move that was begun.
-#[derive(Clone, Copy, Debug)]
+#[derive(Clone, Copy)]
 pub(crate) struct Unmet {
     pub(crate) agent: u16,
     pub(crate) count: u32,

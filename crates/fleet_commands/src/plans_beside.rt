@@ -14,7 +14,7 @@ use std::alloc::AllocError;
 use std::rt::Files;
 
 /// The plan that goes furthest so far, and beside whose tape it is.
-#[derive(Debug, Drop)]
+#[derive(Drop)]
 pub(crate) struct Foremost {
     pub(crate) agent: u16,
     pub(crate) plan: Plan,

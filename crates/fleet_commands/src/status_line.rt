@@ -20,7 +20,7 @@ use std::io::Write;
 use text_io::{Counted, FaultWords, Sink, WriteFault};
 
 /// Where an agent is, how many of all its moves it has finished, and what keeps it from the next.
-#[derive(Clone, Copy, Debug)]
+#[derive(Clone, Copy)]
 pub(crate) struct AgentLine {
     pub(crate) agent: u16,
     pub(crate) held: Held,
@@ -30,7 +30,7 @@ pub(crate) struct AgentLine {
 }
 
 /// A line of what all tapes say together.
-#[derive(Clone, Copy, Debug)]
+#[derive(Clone, Copy)]
 pub(crate) enum StatusLine {
     Agent(AgentLine),
     /// No agent is opened on a tape.

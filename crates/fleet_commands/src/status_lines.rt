@@ -1,11 +1,7 @@
 //! Which lines `mapf status` has.
-ghost use Rattle.std.specs.Prelude.{◌≡◌, ◌<◌, ◌≤◌, ◌*◌, [], ◌++◌};
-ghost use Rattle.std.specs.Prelude.{false, length, map, slice_get, IfOk};
+ghost use Rattle.std.specs.Prelude.{◌≡◌, ◌<◌, ◌≤◌, ◌++◌, length, map, slice_get, IfOk};
 ghost use Rattle.std.specs.List.{range_with_len};
-ghost use Rattle.model.specs.Timetable.{Timetable};
-ghost use Rattle.depgraph.specs.AgentParts.{IsPartOf};
 ghost use Rattle.depgraph.specs.Rotations.{turns_of};
-ghost use Rattle.agent.specs.States.{held_by_tape};
 ghost use Rattle.fleet_commands.specs.FoundTapes.{AreWithinMoves};
 ghost use Rattle.fleet_commands.specs.Standing.{keepers_of, waits_of};
 ghost use Rattle.fleet_commands.specs.Turns.{in_turn};
@@ -13,9 +9,9 @@ ghost use Rattle.fleet_commands.specs.StatusText.{agent_line, circle_line, root_
 
 use crate::keeping::{has_come, keepers_of, kept_count, kept_now, stuck_count, waits_of};
 use crate::status_line::{AgentLine, StatusLine};
+use agent::Records;
 use agent_commands::AgentFault;
-use depgraph::{Dependencies, Part, Rotation};
-use model::Held;
+use depgraph::{Dependencies, Rotation};
 use std::alloc::{AllocError, Global};
 
 /// What was found of the tapes, line by line.
@@ -56,12 +52,13 @@ fn agent_line(
     let _agents = dependencies.agents();
     let number = agent as u16;
     match found[agent as usize] {
-        Ok(records) => {
+        Ok(count) => {
+            let records = Records { count };
             let part = dependencies.part(number).unwrap();
             StatusLine::Agent(AgentLine {
                 agent: number,
-                held: held_by(&part, records),
-                done: records / 2,
+                held: records.held(&part),
+                done: records.done(),
                 all: part.own_moves(),
                 keeping: kept_now(dependencies, found, agent),
             })
@@ -123,19 +120,4 @@ fn push_circles(
         }
     }
     Ok(())
-}
-
-/// What an agent holds whose tape has so many records.
-fn held_by(part: &Part<'_>, records: u32) -> Held
-    requires { records ≤ 2 * length part.now.needs }
-    ensures { (tt : Timetable) (is : IsPartOf tt part.now)
-        → result ≡ held_by_tape is.track
-        (record { records = records; heard = []; broken = false }) }
-{
-    let at = part.cell(records / 2).unwrap();
-    if records % 2 == 1 {
-        Held::Between(at, part.cell(records / 2 + 1).unwrap())
-    } else {
-        Held::At(at)
-    }
 }

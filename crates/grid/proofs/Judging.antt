@@ -12,10 +12,17 @@ use Rattle.text_io.specs.Text.{line_feed, carriage_return, is_line_byte, lines_o
 use Rattle.grid.specs.Terrain.{is_terrain}
 use Rattle.grid.specs.MapText.{IsRowOf, is_rest_byte}
 use Rattle.text_io.specs.Reading.{Place, at_line_feed, at_byte, at_end, IsOver, IsByte, Decides, IsFirstFault, line_number}
-use Rattle.grid.specs.MapFault.{MapDue, type_due, height_due, width_due, map_due, rows_due, MapFollows, HasOtherForm, HasOtherValue, HasLargeValue, IsBeginning, IsWholeRow, RunsOver, GoesWrong, HasMapFault, MapFaultAt}
+use Rattle.grid.specs.MapFault.{MapDue, type_due, height_due, width_due, map_due, rows_due}
+use Rattle.grid.specs.MapFault.{MapFollows, HasOtherForm, HasOtherValue, HasLargeValue, IsBeginning}
+use Rattle.grid.specs.MapFault.{IsWholeRow, RunsOver, GoesWrong, HasMapFault, MapFaultAt}
 use Rattle.grid.specs.Code.Following.{IsLineOpen, IsUndecided, MapLeads}
 use Rattle.text_io.specs.Laws.Lines.{is_line_byte-true, whole_parts, open_parts, lines_parts, AreLines}
-use Rattle.grid.proofs.Standing.{going, stopped, number_of, characters, returned, row_state, row_length, row_length-row, row_state-terrain, row_state-returned, after_line, on_byte, on_row_byte, pass, standing_of, stopped-stays, missing, fault_after, fault_of, after_line-form, after_line-value, after_line-large, after_line-next, pass-terrain, pass-returned, pass-open, open-from_Follows, pass-line_feed, standing_of-lines}
+use Rattle.grid.proofs.Standing.{going, stopped, number_of, characters, returned, row_state}
+use Rattle.grid.proofs.Standing.{row_length, row_length-row, row_state-terrain, row_state-returned}
+use Rattle.grid.proofs.Standing.{after_line, on_byte, on_row_byte, pass, standing_of, stopped-stays}
+use Rattle.grid.proofs.Standing.{missing, fault_after, fault_of, after_line-form, after_line-value}
+use Rattle.grid.proofs.Standing.{after_line-large, after_line-next, pass-terrain, pass-returned}
+use Rattle.grid.proofs.Standing.{pass-open, open-from_Follows, pass-line_feed, standing_of-lines}
 
 -- ---- a fault of a whole line
 

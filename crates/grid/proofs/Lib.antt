@@ -16,3 +16,4 @@ pub mod MapTaken
 pub mod MapLemmas
 pub mod LineDecisions
 pub mod Deciding
+pub mod JoiningLemmas

@@ -21,7 +21,10 @@ use Rattle.grid.specs.Code.HeaderLine.{word_of, saying_of}
 use Rattle.grid.specs.Code.Following.{IsLineOpen}
 use Rattle.grid.proofs.HeaderLemmas.{Whole-from_type_line, type_line-from_Whole, Whole-from_map_line, map_line-from_Whole}
 use Rattle.grid.proofs.HeaderNumbers.{HasSize, height_has_size, width_has_size, Size-from_number_line, number_line-from_Size, HasValue-from_Size, HasValue-from_NoSize, says-from_HasValue}
-use Rattle.grid.proofs.Standing.{going, stopped, number_of, after_words, after_number, is_large_height, is_large_width, row_state, row_length, row_length-row, row_state-terrain, row_state-returned, after_line, on_byte, on_row_byte}
+use Rattle.grid.proofs.Standing.{going, stopped, number_of, after_words, after_number}
+use Rattle.grid.proofs.Standing.{is_large_height, is_large_width, row_state, row_length}
+use Rattle.grid.proofs.Standing.{row_length-row, row_state-terrain, row_state-returned, after_line}
+use Rattle.grid.proofs.Standing.{on_byte, on_row_byte}
 
 -- what is known of a line that is due
 abbrev pub IsDue : MapDue → Type 0

@@ -4,3 +4,5 @@
 pub mod HeaderLine
 -- what the reader of a map has taken of its source
 pub mod Following
+-- which terrains a straight step joins, by their characters
+pub mod Joining

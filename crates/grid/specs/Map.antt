@@ -1,10 +1,10 @@
 -- What a caller sees of a map, and the steps on it.
-use Rattle.std.specs.Prelude.{◌≡◌, ℕ, ◌+◌, ◌*◌, ◌<◌, ◌≤◌}
+use Rattle.std.specs.Prelude.{◌≡◌, ◌≢◌, ℕ, ◌+◌, ◌*◌, ◌<◌, ◌≤◌}
 use Rattle.std.specs.Prelude.{◌⊎◌, IsTrue, ◌&&◌, if◌then◌else◌, nat_lt, List}
 use Rattle.std.specs.Prelude.{length, Option, None, MatchOption, slice_get}
 use Rattle.grid.specs.declared.cell.Cell.{Cell}
 use Rattle.grid.specs.declared.terrain.Terrain.{Terrain}
-use Rattle.grid.specs.Terrain.{class_of, joins}
+use Rattle.grid.specs.Terrain.{blocked, class_of, joins}
 
 -- the terrain of the cells, row by row
 pub record Grid : Type 0 where
@@ -30,6 +30,10 @@ abbrev pub terrain_at : Grid → Cell → Option Terrain
 terrain_at m c =
     if nat_lt c.x m.width && nat_lt c.y m.height then slice_get m.terrain
     (c.y * m.width + c.x) else None
+
+-- the cell is on the map and isn't blocked
+abbrev pub IsPassable : Grid → Cell → Type 0
+IsPassable m c = MatchOption (terrain_at m c) ⊥ (λ terrain. class_of terrain ≢ blocked)
 
 -- the numbers differ by one
 abbrev pub AreNext : ℕ → ℕ → Type 0

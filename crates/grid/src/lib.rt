@@ -3,6 +3,7 @@
 
 mod cell;
 mod header_line;
+mod joining;
 pub mod laws;
 mod map;
 mod map_fault;
@@ -13,6 +14,7 @@ mod terrain;
 mod terrain_scan;
 
 pub use cell::Cell;
+pub use joining::{are_joined, is_land};
 pub use map::Map;
 pub use map_fault::MapFault;
 pub use map_reader::read_map;

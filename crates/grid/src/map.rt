@@ -1,5 +1,5 @@
 //! A map: a terrain for every cell.
-ghost use Rattle.std.specs.Prelude.{◌≡◌, ◌*◌, IsTrue, vec_len, map};
+ghost use Rattle.std.specs.Prelude.{◌≡◌, ◌*◌, ◌↔◌, IsTrue, vec_len, map};
 ghost use Rattle.std.specs.List.{list_all};
 ghost use Rattle.grid.specs.Terrain.{is_terrain, kind_of, character_of};
 ghost use Rattle.grid.specs.Map.{Grid, IsSize, IsMap};
@@ -29,7 +29,7 @@ impl Model for Map {
 }
 
 impl Map {
-    ghost use Rattle.grid.specs.Map.{terrain_at};
+    ghost use Rattle.grid.specs.Map.{IsPassable, terrain_at};
 
     /// How many cells a row has.
     pub fn width(&self) -> u32
@@ -58,6 +58,16 @@ impl Map {
         } else {
             None
         }
+    }
+
+    /// Whether the cell is on the map and isn't blocked.
+    pub fn is_passable(&self, cell: Cell) -> bool
+        ensures { IsTrue result ↔ IsPassable self.now cell }
+    {
+        matches!(
+            self.terrain(cell),
+            Some(Terrain::Floor | Terrain::Grass | Terrain::Swamp | Terrain::Water)
+        )
     }
 
     /// The map with these characters, row by row.

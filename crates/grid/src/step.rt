@@ -9,7 +9,7 @@ use crate::{Cell, Map, Terrain};
 pub fn step4(map: &Map, from: Cell, to: Cell) -> bool
     ensures { IsTrue result ↔ IsStraightStep map.now from to }
 {
-    share_side(from, to) && are_joined(map.terrain(from), map.terrain(to))
+    share_side(from, to) && join(map.terrain(from), map.terrain(to))
 }
 
 /// Whether a legal straight or diagonal step leads from the one cell to the other (MovingAI,
@@ -59,7 +59,7 @@ fn are_next(a: u16, b: u16) -> bool
 
 /// Whether a straight step may lead from the one terrain to the other; `None` stands for a cell off
 /// the map.
-fn are_joined(from: Option<Terrain>, to: Option<Terrain>) -> bool
+fn join(from: Option<Terrain>, to: Option<Terrain>) -> bool
     ensures { IsTrue result ↔ AreJoined from to }
 {
     match from {

@@ -14,14 +14,14 @@ use std::alloc::AllocError;
 
 /// That a walk comes to the goal at a time, and the place among the closed states of one from which
 /// shortest steps lead there.
-#[derive(Clone, Copy, Debug)]
+#[derive(Clone, Copy)]
 pub(crate) struct Arrival {
     pub(crate) time: u32,
     pub(crate) from: u32,
 }
 
 /// What came of going on from a state.
-#[derive(Clone, Copy, Debug)]
+#[derive(Clone, Copy)]
 enum Advance {
     /// The search goes on.
     On,

@@ -34,7 +34,7 @@ const EMPTY: Slot = Slot {
 };
 
 /// What a look for a state says.
-#[derive(Clone, Copy, Debug)]
+#[derive(Clone, Copy)]
 enum Found {
     Closed,
     /// It isn't closed, and would stand here.

@@ -3,7 +3,6 @@ ghost use Rattle.std.specs.Prelude.{◌≡◌, ◌+◌, ◌<◌, ◌↔◌, ℕ,
 ghost use Rattle.std.specs.Prelude.{true, length, slice_get, Some, IsTrue};
 ghost use Rattle.grid.specs.declared.cell.Cell.{Cell};
 ghost use Rattle.model.specs.Costs.{cost};
-ghost use Rattle.model.specs.Plan.{IsPassable};
 ghost use Rattle.model.specs.Timetable.{Track};
 ghost use Rattle.optimality.specs.Constraints.{MeetsAll};
 ghost use Rattle.optimality.specs.Walkers.{along, IsAgentWalk, MayFollow};
@@ -11,7 +10,7 @@ ghost use Rattle.optimality.specs.Walkers.{along, IsAgentWalk, MayFollow};
 use crate::asked::forbid_start;
 use crate::legal_steps::LegalSteps;
 use crate::walk::{cost_of, meets_all};
-use grid::{Cell, Map, Terrain};
+use grid::{Cell, Map};
 use optimality::{Constraint, Ends};
 
 /// Whether a walk goes from the start to the goal, is as it is asked, and has no cell beyond the
@@ -33,7 +32,7 @@ pub(crate) fn is_way(
     if walk[0] != ends.start || walk[cost] != ends.goal {
         return false;
     }
-    if !is_passable(legal.map(), ends.start) || !are_steps(legal, walk) {
+    if !legal.map().is_passable(ends.start) || !are_steps(legal, walk) {
         return false;
     }
     meets_all(walk, asked)
@@ -45,7 +44,7 @@ pub(crate) fn may_start(map: &Map, start: Cell, asked: &[Constraint]) -> bool
         → IsAgentWalk map.now (record { start = start; goal = goal }) track
         → MeetsAll asked.now track → ⊥ }
 {
-    if !is_passable(map, start) {
+    if !map.is_passable(start) {
         return false;
     }
     if forbid_start(asked, start) {
@@ -67,14 +66,4 @@ fn are_steps(legal: &LegalSteps<'_>, walk: &[Cell]) -> bool
         }
     }
     true
-}
-
-/// Whether the cell is on the map and isn't blocked.
-fn is_passable(map: &Map, cell: Cell) -> bool
-    ensures { IsTrue result ↔ IsPassable map.now cell }
-{
-    matches!(
-        map.terrain(cell),
-        Some(Terrain::Floor | Terrain::Grass | Terrain::Swamp | Terrain::Water)
-    )
 }

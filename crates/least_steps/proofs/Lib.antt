@@ -1,5 +1,3 @@
--- where a straight step may lead
-mod JoiningLemmas
 -- diagonal steps, by the straight ones beside them
 mod DiagonalLemmas
 -- the eight steps by their numbers, and sets of them

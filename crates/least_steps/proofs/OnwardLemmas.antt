@@ -52,7 +52,8 @@ module _ (e : Exploration) (c : Cell) (n legal : ℕ) (are : AreLegal e.map c le
   behind_north p before aslant has most led column row taken =
       column_left e p c before n has aslant most led (sym column)
       (by_step (λ v step. (v.y ≡ p.y → ⊥) → Has e v (n + step) ⊎ IsDiagonalStep e.map c (record { x = v.x; y = p.y }))
-      (λ v step k is there. each (λ k. IsBy e.aslant c v step k → HasStep legal k → (v.y ≡ p.y → ⊥) → Has e v (n + step) ⊎ IsDiagonalStep e.map c (record { x = v.x; y = p.y })) (λ is there other. inl (goes (onward_of 0 legal) taken v step 0 is (always_on legal 1 64 18 128 36 0 refl there)))
+      (λ v step k is there. each (λ k. IsBy e.aslant c v step k → HasStep legal k → (v.y ≡ p.y → ⊥) → Has e v (n + step) ⊎ IsDiagonalStep e.map c (record { x = v.x; y = p.y }))
+      (λ is there other. inl (goes (onward_of 0 legal) taken v step 0 is (always_on legal 1 64 18 128 36 0 refl there)))
       (λ is there other.
       sided (onward_of 0 legal) taken v step 1 6 (record { x = v.x; y = p.y }) (omega arith) refl
       (same_cell (cell_behind 6 c) (record { x = v.x; y = p.y }) (sym (ap (λ (d : Cell). d.x) is.1)) row) is (first_on legal 1 64 18 128 36 1 6 refl refl there))
@@ -124,7 +125,8 @@ module _ (e : Exploration) (c : Cell) (n legal : ℕ) (are : AreLegal e.map c le
   behind_south p before aslant has most led column row taken =
       column_left e p c before n has aslant most led (sym column)
       (by_step (λ v step. (v.y ≡ p.y → ⊥) → Has e v (n + step) ⊎ IsDiagonalStep e.map c (record { x = v.x; y = p.y }))
-      (λ v step k is there. each (λ k. IsBy e.aslant c v step k → HasStep legal k → (v.y ≡ p.y → ⊥) → Has e v (n + step) ⊎ IsDiagonalStep e.map c (record { x = v.x; y = p.y })) (λ is there other. absurd (other (ap (λ (d : Cell). d.y) is.1 ∙ row)))
+      (λ v step k is there. each (λ k. IsBy e.aslant c v step k → HasStep legal k → (v.y ≡ p.y → ⊥) → Has e v (n + step) ⊎ IsDiagonalStep e.map c (record { x = v.x; y = p.y }))
+      (λ is there other. absurd (other (ap (λ (d : Cell). d.y) is.1 ∙ row)))
       (λ is there other.
       sided (onward_of 3 legal) taken v step 1 4 (record { x = v.x; y = p.y }) (omega arith) refl
       (same_cell (cell_behind 4 c) (record { x = v.x; y = p.y }) (sym (ap (λ (d : Cell). d.x) is.1)) row) is (first_on legal 8 16 66 32 132 1 4 refl refl there))
@@ -148,7 +150,8 @@ module _ (e : Exploration) (c : Cell) (n legal : ℕ) (are : AreLegal e.map c le
   behind_northwest p before aslant has most led column row taken =
       diagonal_left e p c before n has aslant most led
       (by_step (λ v step. (v.x ≡ p.x → ⊥) → (v.y ≡ p.y → ⊥) → Has e v (n + step))
-      (λ v step k is there. each (λ k. IsBy e.aslant c v step k → HasStep legal k → (v.x ≡ p.x → ⊥) → (v.y ≡ p.y → ⊥) → Has e v (n + step)) (λ is there apart other. goes (onward_of 4 legal) taken v step 0 is (always_on legal 19 0 0 0 0 0 refl there))
+      (λ v step k is there. each (λ k. IsBy e.aslant c v step k → HasStep legal k → (v.x ≡ p.x → ⊥) → (v.y ≡ p.y → ⊥) → Has e v (n + step))
+      (λ is there apart other. goes (onward_of 4 legal) taken v step 0 is (always_on legal 19 0 0 0 0 0 refl there))
       (λ is there apart other. goes (onward_of 4 legal) taken v step 1 is (always_on legal 19 0 0 0 0 1 refl there))
       (λ is there apart other. absurd (apart (ap (λ (d : Cell). d.x) is.1 ∙ column)))
       (λ is there apart other. absurd (other (ap (λ (d : Cell). d.y) is.1 ∙ row)))
@@ -164,7 +167,8 @@ module _ (e : Exploration) (c : Cell) (n legal : ℕ) (are : AreLegal e.map c le
   behind_northeast p before aslant has most led column row taken =
       diagonal_left e p c before n has aslant most led
       (by_step (λ v step. (v.x ≡ p.x → ⊥) → (v.y ≡ p.y → ⊥) → Has e v (n + step))
-      (λ v step k is there. each (λ k. IsBy e.aslant c v step k → HasStep legal k → (v.x ≡ p.x → ⊥) → (v.y ≡ p.y → ⊥) → Has e v (n + step)) (λ is there apart other. goes (onward_of 5 legal) taken v step 0 is (always_on legal 37 0 0 0 0 0 refl there))
+      (λ v step k is there. each (λ k. IsBy e.aslant c v step k → HasStep legal k → (v.x ≡ p.x → ⊥) → (v.y ≡ p.y → ⊥) → Has e v (n + step))
+      (λ is there apart other. goes (onward_of 5 legal) taken v step 0 is (always_on legal 37 0 0 0 0 0 refl there))
       (λ is there apart other. absurd (apart (ap (λ (d : Cell). d.x) is.1 ∙ column)))
       (λ is there apart other. goes (onward_of 5 legal) taken v step 2 is (always_on legal 37 0 0 0 0 2 refl there))
       (λ is there apart other. absurd (other (ap (λ (d : Cell). d.y) is.1 ∙ row)))
@@ -180,7 +184,8 @@ module _ (e : Exploration) (c : Cell) (n legal : ℕ) (are : AreLegal e.map c le
   behind_southwest p before aslant has most led column row taken =
       diagonal_left e p c before n has aslant most led
       (by_step (λ v step. (v.x ≡ p.x → ⊥) → (v.y ≡ p.y → ⊥) → Has e v (n + step))
-      (λ v step k is there. each (λ k. IsBy e.aslant c v step k → HasStep legal k → (v.x ≡ p.x → ⊥) → (v.y ≡ p.y → ⊥) → Has e v (n + step)) (λ is there apart other. absurd (other (ap (λ (d : Cell). d.y) is.1 ∙ row)))
+      (λ v step k is there. each (λ k. IsBy e.aslant c v step k → HasStep legal k → (v.x ≡ p.x → ⊥) → (v.y ≡ p.y → ⊥) → Has e v (n + step))
+      (λ is there apart other. absurd (other (ap (λ (d : Cell). d.y) is.1 ∙ row)))
       (λ is there apart other. goes (onward_of 6 legal) taken v step 1 is (always_on legal 74 0 0 0 0 1 refl there))
       (λ is there apart other. absurd (apart (ap (λ (d : Cell). d.x) is.1 ∙ column)))
       (λ is there apart other. goes (onward_of 6 legal) taken v step 3 is (always_on legal 74 0 0 0 0 3 refl there))
@@ -196,7 +201,8 @@ module _ (e : Exploration) (c : Cell) (n legal : ℕ) (are : AreLegal e.map c le
   behind_southeast p before aslant has most led column row taken =
       diagonal_left e p c before n has aslant most led
       (by_step (λ v step. (v.x ≡ p.x → ⊥) → (v.y ≡ p.y → ⊥) → Has e v (n + step))
-      (λ v step k is there. each (λ k. IsBy e.aslant c v step k → HasStep legal k → (v.x ≡ p.x → ⊥) → (v.y ≡ p.y → ⊥) → Has e v (n + step)) (λ is there apart other. absurd (other (ap (λ (d : Cell). d.y) is.1 ∙ row)))
+      (λ v step k is there. each (λ k. IsBy e.aslant c v step k → HasStep legal k → (v.x ≡ p.x → ⊥) → (v.y ≡ p.y → ⊥) → Has e v (n + step))
+      (λ is there apart other. absurd (other (ap (λ (d : Cell). d.y) is.1 ∙ row)))
       (λ is there apart other. absurd (apart (ap (λ (d : Cell). d.x) is.1 ∙ column)))
       (λ is there apart other. goes (onward_of 7 legal) taken v step 2 is (always_on legal 140 0 0 0 0 2 refl there))
       (λ is there apart other. goes (onward_of 7 legal) taken v step 3 is (always_on legal 140 0 0 0 0 3 refl there))
@@ -377,16 +383,20 @@ straight_left e c n by legal are straight (inr h) taken =
     each (λ by. c ≡ cell_behind by p → IsMove e.map e.aslant p c (weight by) → before + weight by ≤ n → IsTaken e c n (bit_and legal (not_back by)) → IsLeft e c n)
     (λ is move most taken.
     let led = is_straight e.map e.aslant p c move in
-    straight_behind_north e c n legal are p before (step-on e.map p c led).0 straight has most (same_cell (cell_behind 3 c) p (ap (λ (k : Cell). k.x) is) (one_less p.y c.y (ap (λ (k : Cell). k.y) is) (rows_of e p c led (ap (λ (k : Cell). k.x) is)))) taken)
+    straight_behind_north e c n legal are p before (step-on e.map p c led).0 straight has most
+    (same_cell (cell_behind 3 c) p (ap (λ (k : Cell). k.x) is) (one_less p.y c.y (ap (λ (k : Cell). k.y) is) (rows_of e p c led (ap (λ (k : Cell). k.x) is)))) taken)
     (λ is move most taken.
     let led = is_straight e.map e.aslant p c move in
-    straight_behind_west e c n legal are p before (step-on e.map p c led).0 straight has most (same_cell (cell_behind 2 c) p (one_less p.x c.x (ap (λ (k : Cell). k.x) is) (columns_of e p c led (ap (λ (k : Cell). k.y) is))) (ap (λ (k : Cell). k.y) is)) taken)
+    straight_behind_west e c n legal are p before (step-on e.map p c led).0 straight has most
+    (same_cell (cell_behind 2 c) p (one_less p.x c.x (ap (λ (k : Cell). k.x) is) (columns_of e p c led (ap (λ (k : Cell). k.y) is))) (ap (λ (k : Cell). k.y) is)) taken)
     (λ is move most taken.
     let led = is_straight e.map e.aslant p c move in
-    straight_behind_east e c n legal are p before (step-on e.map p c led).0 straight has most (same_cell (cell_behind 1 c) p (one_more p.x c.x (ap (λ (k : Cell). k.x) is)) (ap (λ (k : Cell). k.y) is)) taken)
+    straight_behind_east e c n legal are p before (step-on e.map p c led).0 straight has most (same_cell (cell_behind 1 c) p (one_more p.x c.x (ap (λ (k : Cell). k.x) is)) (ap (λ (k : Cell). k.y) is))
+    taken)
     (λ is move most taken.
     let led = is_straight e.map e.aslant p c move in
-    straight_behind_south e c n legal are p before (step-on e.map p c led).0 straight has most (same_cell (cell_behind 0 c) p (ap (λ (k : Cell). k.x) is) (one_more p.y c.y (ap (λ (k : Cell). k.y) is))) taken)
+    straight_behind_south e c n legal are p before (step-on e.map p c led).0 straight has most
+    (same_cell (cell_behind 0 c) p (ap (λ (k : Cell). k.x) is) (one_more p.y c.y (ap (λ (k : Cell). k.y) is))) taken)
     (λ is move most taken. absurd (never_straight e p c straight move))
     (λ is move most taken. absurd (never_straight e p c straight move))
     (λ is move most taken. absurd (never_straight e p c straight move))

@@ -1,7 +1,5 @@
 -- The code's own words, of which no promise speaks.
 
--- where a straight step may lead
-pub mod Joining
 -- what a walk takes at least
 pub mod Estimate
 -- the eight steps by their numbers

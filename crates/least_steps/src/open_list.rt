@@ -24,7 +24,7 @@ pub(crate) struct Open {
 }
 
 /// Whither a search goes on.
-#[derive(Clone, Copy, Debug, PartialEq, Eq)]
+#[derive(Clone, Copy, PartialEq, Eq)]
 pub(crate) enum Course {
     /// Toward the goal: the places are in buckets by the least number that a walk through them can
     /// have, and those of the bucket at hand are taken from the end, so that one walk is followed

@@ -8,8 +8,8 @@ ghost use Rattle.least_steps.specs.Code.Steps.{IsLegalStep, cell_behind, lead, n
 ghost use Rattle.least_steps.specs.Code.Steps.{onward_of, set_with, side_of, turn_behind};
 ghost use Rattle.least_steps.specs.Code.Steps.{weight};
 
-use crate::joining::{are_joined, is_step};
-use grid::{Cell, Map};
+use crate::joining::is_step;
+use grid::{Cell, Map, are_joined};
 use walks::{DIAGONAL, STRAIGHT};
 
 /// No step led to a start.

@@ -10,7 +10,9 @@ use Rattle.model.specs.declared.event.Event.TheVariants.{Start, Finish, Say, Del
 use Rattle.model.specs.declared.why.Why.TheVariants.{StoreFailed, Broken, AlreadyMoving, AtEnd, Waits}
 use Rattle.model.specs.Timetable.{Track, Timetable, moves, path, track_of}
 use Rattle.model.specs.Dependency.{Need, need}
-use Rattle.model.specs.History.{Answer, moving, at, between, refused, History, Happening, armed_of, is_store_failed, is_begun, is_ended, is_broken, starts_of, finishes_of, kept_starts, done, is_moving, known}
+use Rattle.model.specs.History.{Answer, moving, at, between, refused, History, Happening, armed_of}
+use Rattle.model.specs.History.{is_store_failed, is_begun, is_ended, is_broken, starts_of}
+use Rattle.model.specs.History.{finishes_of, kept_starts, done, is_moving, known}
 use Rattle.model.specs.Rules.{path_cell, stored, unless_waiting, start_answer, finish_answer, restart_answer, answer, agent_of, IsRun}
 use Rattle.model.specs.Safety.{walk, IsBeginningOf}
 use Rattle.model.specs.Laws.Tracks.{first_cell, length-path}

@@ -12,6 +12,7 @@ use Rattle.model.specs.declared.plan_fault.PlanFault.TheVariants.{BadStart, BadM
 use Rattle.model.specs.declared.plan_fault.PlanFault.TheVariants.{Swap, OutOfMemory}
 use Rattle.model.specs.Timetable.{Track, Timetable, cell_at}
 use Rattle.model.specs.Costs.{EndsAtRest}
+pub use Rattle.grid.specs.Map.{IsPassable}
 
 -- a cell, or a place off the map
 pub record Position : Type 0 where
@@ -55,10 +56,6 @@ abbrev pub IsAt : Plan → ℕ → ℕ → Position → Type 0
 IsAt p i t place = MatchOption (course_of p i) ⊥ (λ course. position_at course t ≡ place)
 
 -- ---- faults
-
--- the cell is on the map and isn't blocked
-abbrev pub IsPassable : Grid → Cell → Type 0
-IsPassable m c = MatchOption (terrain_at m c) ⊥ (λ terrain. class_of terrain ≢ blocked)
 
 -- a legal straight step leads from the one place to the other
 pub record IsLegal (m : Grid) (from to : Position) : Type 0 where

@@ -44,7 +44,8 @@ parts : (v : Visit) → AreFitting v → slice_split (λ b. b == space) (visit_l
 parts v h =
     let same : (space == space) ≡ true = eq-eqb space space refl in
     slice_split_at (λ b. b == space) (codes "visit") space (decimal v.agent ++ (space ∷ (decimal v.index ++ (space ∷ decimal v.time)))) (no_space (codes "visit") refl) same
-    ∙ ap (λ xs. codes "visit" ∷ xs) (slice_split_at (λ b. b == space) (decimal v.agent) space (decimal v.index ++ (space ∷ decimal v.time)) (no_space (decimal v.agent) (decimal-is_part v.agent h.agent)) same
+    ∙ ap (λ xs. codes "visit" ∷ xs) (slice_split_at (λ b. b == space) (decimal v.agent) space (decimal v.index ++ (space ∷ decimal v.time))
+    (no_space (decimal v.agent) (decimal-is_part v.agent h.agent)) same
     ∙ ap (λ xs. decimal v.agent ∷ xs) (slice_split_at (λ b. b == space) (decimal v.index) space (decimal v.time) (no_space (decimal v.index) (decimal-is_part v.index h.index)) same
     ∙ ap (λ xs. decimal v.index ∷ xs) (slice_split_none (λ b. b == space) (decimal v.time) (no_space (decimal v.time) (decimal-is_part v.time h.time)))))
 

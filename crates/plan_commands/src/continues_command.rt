@@ -56,7 +56,7 @@ pub fn perform<M: Read, O: Read, N: Read, W: Write>(
 }
 
 /// What a plan adds to one that it continues.
-#[derive(Clone, Copy, Debug)]
+#[derive(Clone, Copy)]
 struct Continuation {
     /// The time from which on it adds.
     time: usize,

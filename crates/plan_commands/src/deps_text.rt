@@ -65,7 +65,7 @@ fn put_deps<W: Write>(
 }
 
 /// How many moves the agents make, and how many of them have a need.
-#[derive(Clone, Copy, Debug)]
+#[derive(Clone, Copy)]
 struct Counts {
     moves: u32,
     needs: u32,

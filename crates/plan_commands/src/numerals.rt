@@ -14,7 +14,7 @@ pub(crate) const MOST_BYTES: usize = 7;
 
 /// A number with a space before it: the first bytes, so many. All bytes are copied at once, which
 /// takes no call.
-#[derive(Debug, Drop)]
+#[derive(Drop)]
 pub(crate) struct Numeral {
     bytes: [u8; MOST_BYTES],
     len: u8,

@@ -99,7 +99,7 @@ fn show<W: Write>(alloc: Global, plan: &Plan, agent: Option<u16>, out: &mut Coun
 }
 
 /// What is wanted of memory before the first line.
-#[derive(Debug, Drop)]
+#[derive(Drop)]
 struct Prepared {
     cells: Vec<Cell>,
     stretches: Vec<Stretch>,

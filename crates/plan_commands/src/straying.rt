@@ -15,7 +15,7 @@ use plan_text::{Course, Plan};
 use std::alloc::Global;
 
 /// A move that is none: whose it is, and its step.
-#[derive(Clone, Copy, Debug)]
+#[derive(Clone, Copy)]
 pub(crate) struct BadMove {
     pub(crate) agent: u32,
     pub(crate) step: u32,

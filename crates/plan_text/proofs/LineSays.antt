@@ -13,7 +13,10 @@ use Rattle.plan_text.specs.declared.plan_text_fault.PlanTextFault.TheVariants.{B
 use Rattle.plan_text.specs.Limits.{most_agents, most_acts, most_acts_in_all, acts_in, IsCourse}
 use Rattle.plan_text.specs.PlanText.{act_character, no_act, acts_text, SaysNumber, SpellsCourse, header}
 use Rattle.text_io.specs.Numerals.{IsNumeral, is_numeral, numeral_value, is_below}
-use Rattle.plan_text.specs.PlanTextFault.{PlanDue, header_due, number_due, agents_due, agent_due, IsLineDue, longest_plan_line, IsWholeLine, HasParts, IsCoordinate, is_act, HasStart, HasOtherAct, HasPlanTextFault}
+use Rattle.plan_text.specs.PlanTextFault.{PlanDue, header_due, number_due, agents_due, agent_due}
+use Rattle.plan_text.specs.PlanTextFault.{IsLineDue, longest_plan_line, IsWholeLine, HasParts}
+use Rattle.plan_text.specs.PlanTextFault.{IsCoordinate, is_act, HasStart, HasOtherAct}
+use Rattle.plan_text.specs.PlanTextFault.{HasPlanTextFault}
 use Rattle.plan_text.specs.Code.PlanLines.{act_by, PlanAdds, HasReadPlan}
 use Rattle.text_io.specs.Laws.Numerals.{IsNumeral-from_test, test-from_IsNumeral, below-from_IsNumeral, IsNumeral-from_below}
 use Rattle.text_io.specs.Laws.Parts.{same_or_not, begins_or_not}

@@ -1,5 +1,7 @@
 -- What is asked, and what was found under it.
-use Rattle.std.proofs.Common.{◌≡◌, ◌∙◌, ℕ, zero, suc, ◌+◌, ◌<◌, ◌≤◌, Bool, true, false, cond, List, [], ◌∷◌, ◌++◌, length, take, Some, arith, refl, sym, ap, subst, inl, inr, append-nil, get_or, length-append, length-take}
+use Rattle.std.proofs.Common.{◌≡◌, ◌∙◌, ℕ, zero, suc, ◌+◌, ◌<◌, ◌≤◌, Bool, true, false, cond, List}
+use Rattle.std.proofs.Common.{[], ◌∷◌, ◌++◌, length, take, Some, arith, refl, sym, ap, subst, inl}
+use Rattle.std.proofs.Common.{inr, append-nil, get_or, length-append, length-take}
 use Rattle.std.specs.List.{AllByRecursion}
 use Rattle.std.specs.Prelude.{◌-◌, ◌⊎◌, if◌then◌else◌, nat_lt, slice_get}
 use Rattle.std.proofs.Math.Seq.{take-length, take-suc}

@@ -3,7 +3,7 @@ use crate::trail::Child;
 
 /// A node that is due, by its parent: how many demands were made there, which child it is, and how
 /// many nodes are above it.
-#[derive(Clone, Copy, Debug, PartialEq, Eq)]
+#[derive(Clone, Copy, PartialEq, Eq)]
 pub(crate) struct DueNode {
     pub(crate) asked: usize,
     pub(crate) child: Child,

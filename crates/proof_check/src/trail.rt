@@ -29,7 +29,7 @@ pub(crate) struct Kept {
 }
 
 /// From where the plans of a node come.
-#[derive(Clone, Copy, Debug, PartialEq, Eq)]
+#[derive(Clone, Copy, PartialEq, Eq)]
 pub(crate) enum Child {
     Root,
     First(Node),

@@ -5,7 +5,12 @@ use Rattle.text_io.specs.declared.counted.Counted.{Counted}
 use Rattle.ending.specs.Ending.{End, gave_up}
 use Rattle.proof_text.specs.FaultWords.{proof_fault_words}
 use Rattle.proof_text.specs.declared.proof_fault.ProofFault.{ProofFault}
-use Rattle.proof_text.specs.declared.proof_fault.ProofFault.TheVariants.{BadHeader, BadNode, BadNumber, TooMany, Unfinished, TextAfter, NoSuchAgent, OffMap, LeafTooLow, NotTight, ReadFailed, OutOfMemory}
+use Rattle.proof_text.specs.declared.proof_fault.ProofFault.TheVariants.{BadHeader, BadNode}
+use Rattle.proof_text.specs.declared.proof_fault.ProofFault.TheVariants.{BadNumber, TooMany}
+use Rattle.proof_text.specs.declared.proof_fault.ProofFault.TheVariants.{Unfinished, TextAfter}
+use Rattle.proof_text.specs.declared.proof_fault.ProofFault.TheVariants.{NoSuchAgent, OffMap}
+use Rattle.proof_text.specs.declared.proof_fault.ProofFault.TheVariants.{LeafTooLow, NotTight}
+use Rattle.proof_text.specs.declared.proof_fault.ProofFault.TheVariants.{ReadFailed, OutOfMemory}
 use Rattle.proof_commands.specs.OptimalCommand.{EndsUnproved}
 
 -- a fault for which no line is written

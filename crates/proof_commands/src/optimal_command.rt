@@ -65,7 +65,7 @@ pub fn perform<M: Read, P: Read, F: Read, W: Write>(
 }
 
 /// A map, and a plan that is valid on it.
-#[derive(Debug, Drop)]
+#[derive(Drop)]
 pub(crate) struct PlanOnMap {
     pub(crate) map: Map,
     pub(crate) plan: CheckedPlan,

@@ -11,7 +11,7 @@ use proof_text::ProofFault;
 use std::alloc::{AllocError, Global};
 
 /// What a proof shows of a plan.
-#[derive(Clone, Copy, Debug)]
+#[derive(Clone, Copy)]
 pub(crate) enum Shown {
     /// It costs so much, and a tree of so many nodes shows that such plans cost no less than the
     /// bound.

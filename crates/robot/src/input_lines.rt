@@ -10,7 +10,7 @@ use text_io::{PIECE, Source, Stop, TakenLine};
 
 /// What came next of the input. A line that is kept has so many bytes at the front of a room; one
 /// that is not is longer than it.
-#[derive(Clone, Copy, Debug)]
+#[derive(Clone, Copy)]
 pub(crate) enum NextLine {
     /// A line, and its LF.
     Line(Option<usize>),

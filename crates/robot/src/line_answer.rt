@@ -12,7 +12,7 @@ use std::io::Write;
 use text_io::{Sink, WriteFault};
 
 /// The answer to an input line.
-#[derive(Debug, Drop)]
+#[derive(Drop)]
 pub(crate) enum LineAnswer {
     Reply(Reply),
     /// The message of version 1 that was said.

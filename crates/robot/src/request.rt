@@ -10,7 +10,7 @@ use text_io::small_numeral;
 pub(crate) const LONGEST_LINE: usize = 131072;
 
 /// What an input line asks of an agent.
-#[derive(Clone, Copy, Debug)]
+#[derive(Clone, Copy)]
 pub(crate) enum Request {
     Start,
     Finish,

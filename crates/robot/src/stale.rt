@@ -9,7 +9,7 @@ use agent::{Finished, Message, Told, read_message};
 use depgraph::Part;
 
 /// What a message says: its sender, and how many moves its hearer has finished.
-#[derive(Clone, Copy, Debug)]
+#[derive(Clone, Copy)]
 pub(crate) struct StaleWord {
     pub(crate) sender: u16,
     pub(crate) number: u32,

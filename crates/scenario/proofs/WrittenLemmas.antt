@@ -1,5 +1,7 @@
 -- The line that is written for a row spells it.
-use Rattle.std.proofs.Common.{◌≡◌, ℕ, zero, suc, ◌+◌, ◌^◌, ◌/◌, ◌<◌, Bool, true, false, cond, List, [], ◌∷◌, ◌++◌, length, map, refl, sym, ap, ◌∙◌, inl, inr, arith, append_assoc, append-nil, IsTrue, codes}
+use Rattle.std.proofs.Common.{◌≡◌, ℕ, zero, suc, ◌+◌, ◌^◌, ◌/◌, ◌<◌, Bool, true, false, cond, List}
+use Rattle.std.proofs.Common.{[], ◌∷◌, ◌++◌, length, map, refl, sym, ap, ◌∙◌, inl, inr, arith}
+use Rattle.std.proofs.Common.{append_assoc, append-nil, IsTrue, codes}
 use Rattle.std.specs.Prelude.{◌==◌, ◌||◌, ◌⊎◌, not, decimal}
 use Rattle.std.specs.List.{All, AllByRecursion, join_with_byte, list_all, list_any, slice_split}
 use Rattle.std.specs.Char.{is_ascii_digit}

@@ -1,5 +1,7 @@
 -- Rows that were judged one after another, and one more.
-use Rattle.std.proofs.Common.{◌≡◌, ◌∙◌, ℕ, ◌+◌, ◌<◌, Bool, true, false, List, [], ◌∷◌, ◌++◌, get_or, length, take, Option, Ok, Err, Some, ap, append-nil, append_assoc, arith, refl, sym, subst, zero-add}
+use Rattle.std.proofs.Common.{◌≡◌, ◌∙◌, ℕ, ◌+◌, ◌<◌, Bool, true, false, List, [], ◌∷◌, ◌++◌, get_or}
+use Rattle.std.proofs.Common.{length, take, Option, Ok, Err, Some, ap, append-nil, append_assoc}
+use Rattle.std.proofs.Common.{arith, refl, sym, subst, zero-add}
 use Rattle.std.specs.Prelude.{count_by, max, sum_by}
 use Rattle.std.proofs.KnownBytes.{Appends-trans}
 use Rattle.std.proofs.lemmas.List.{length-append, length-take, take_more}

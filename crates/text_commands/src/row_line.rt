@@ -12,7 +12,7 @@ use std::io::Write;
 use text_io::{Sink, WriteFault};
 
 /// What a row of a scenario comes to where more than one is judged.
-#[derive(Clone, Copy, Debug, PartialEq, Eq)]
+#[derive(Clone, Copy, PartialEq, Eq)]
 pub(crate) enum RowLine {
     /// The verdict on its listed length.
     Judged(RowVerdict),

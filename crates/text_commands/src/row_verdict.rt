@@ -14,7 +14,7 @@ use std::io::Write;
 use text_io::{Counted, Sink, WriteFault};
 
 /// What a row comes to.
-#[derive(Clone, Copy, Debug, PartialEq, Eq)]
+#[derive(Clone, Copy, PartialEq, Eq)]
 pub(crate) enum RowVerdict {
     /// The shortest walks have this length, and the listed one agrees with it or doesn't.
     Shortest {

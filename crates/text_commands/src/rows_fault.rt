@@ -6,7 +6,7 @@ use crate::row_fault::RowFault;
 use text_io::WriteFault;
 
 /// Why not all rows were judged and their lines written.
-#[derive(Clone, Copy, Debug, PartialEq, Eq)]
+#[derive(Clone, Copy, PartialEq, Eq)]
 pub(crate) enum RowsFault {
     /// A row came to nothing.
     Row(RowFault),

@@ -6,7 +6,7 @@ use ending::Status;
 
 /// How many rows were judged, and of each kind; of straight steps their sum and the greatest of
 /// them.
-#[derive(Clone, Copy, Debug)]
+#[derive(Clone, Copy)]
 pub(crate) struct Tally {
     pub(crate) rows: u64,
     pub(crate) agree: u64,

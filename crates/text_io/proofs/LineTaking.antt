@@ -1,5 +1,7 @@
 -- How a line is taken part by part, and what its end leaves.
-use Rattle.std.proofs.Common.{◌≡◌, ℕ, ◌+◌, ◌-◌, ◌<◌, ◌≤◌, false, List, [], ◌∷◌, ◌++◌, length, take, drop, refl, sym, ap, subst, ◌∙◌, inl, inr, arith, append_assoc, append-nil, length-append, length-take, length-take-le}
+use Rattle.std.proofs.Common.{◌≡◌, ℕ, ◌+◌, ◌-◌, ◌<◌, ◌≤◌, false, List, [], ◌∷◌, ◌++◌, length, take}
+use Rattle.std.proofs.Common.{drop, refl, sym, ap, subst, ◌∙◌, inl, inr, arith, append_assoc}
+use Rattle.std.proofs.Common.{append-nil, length-append, length-take, length-take-le}
 use Rattle.std.specs.Prelude.{Option, Err, slice_set, ◌&&◌}
 use Rattle.std.specs.List.{list_all, prefix_len, AllByRecursion}
 use Rattle.std.specs.Io.KnownBytes.{Consumes}
@@ -19,7 +21,10 @@ use Rattle.text_io.specs.Source.{at_hand, source_reader, has_ended, has_failed, 
 use Rattle.text_io.specs.Reading.{LineEnds, by_input, by_line_feed, at_end, JudgedAt}
 use Rattle.text_io.specs.Lines.{HasTaken, HasBegun, HasCome, LineEnded, InputEnded, LineTooLong, ReaderFailed, LinePassed}
 use Rattle.text_io.specs.Laws.Lines.{lines_of-whole, lines_of-open, lines_of-all, ends_in_line_feed-whole, ends_in_line_feed-open, ended_push, AllByRecursion_push}
-use Rattle.text_io.specs.Laws.Taking.{Takes-same, Takes-trans, Takes-then_none, spent, same_failures, more_failures, not_ended, IsLine-push, IsAtEnd-from, has_failed-from, has_failed-goes_on, has_failed-at_end}
+use Rattle.text_io.specs.Laws.Taking.{Takes-same, Takes-trans, Takes-then_none, spent}
+use Rattle.text_io.specs.Laws.Taking.{same_failures, more_failures, not_ended, IsLine-push}
+use Rattle.text_io.specs.Laws.Taking.{IsAtEnd-from, has_failed-from, has_failed-goes_on}
+use Rattle.text_io.specs.Laws.Taking.{has_failed-at_end}
 use Rattle.text_io.specs.Laws.Runs.{take-front, take-part, run_passes}
 
 -- ---- the room

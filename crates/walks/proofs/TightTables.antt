@@ -15,7 +15,10 @@ use Rattle.scenario.specs.declared.length.Length.{Length}
 use Rattle.walks.specs.declared.tightness.Corner.{Corner}
 use Rattle.walks.specs.declared.tightness.Corners.{Corners}
 use Rattle.walks.specs.Certificate.{entry_of, Bounds, IsTight}
-use Rattle.walks.specs.Code.Tightness.{Ground, open_land, open_water, no_ground, ground_of_class, ground_of, number_of, corner_at, AreWithinStep, AreSame, KeepsSide, KeepsBlock, KeepsBlockAt, KeepsBlockIn, KeepsRows, TellsSame, AreCorners, corner_in}
+use Rattle.walks.specs.Code.Tightness.{Ground, open_land, open_water, no_ground, ground_of_class}
+use Rattle.walks.specs.Code.Tightness.{ground_of, number_of, corner_at, AreWithinStep, AreSame}
+use Rattle.walks.specs.Code.Tightness.{KeepsSide, KeepsBlock, KeepsBlockAt, KeepsBlockIn, KeepsRows}
+use Rattle.walks.specs.Code.Tightness.{TellsSame, AreCorners, corner_in}
 use Rattle.walks.specs.declared.length_table.Entries.{Entries}
 use Rattle.walks.specs.Code.KeyParts.{number_of_entry}
 use Rattle.walks.specs.Code.Distances.{beyond_number}
@@ -319,7 +322,8 @@ diagonal_from_same m u v columns rows first first_on second second_on =
     }
 
 pub block_from_tight : (m : Grid) (table : List (Option Length)) → IsTight m table → (x y : ℕ)
-    → KeepsBlock (corner_at m (entry_number table m.width) x y) (corner_at m (entry_number table m.width) (x + 1) y) (corner_at m (entry_number table m.width) x (y + 1)) (corner_at m (entry_number table m.width) (x + 1) (y + 1))
+    → KeepsBlock (corner_at m (entry_number table m.width) x y) (corner_at m (entry_number table m.width) (x + 1) y) (corner_at m (entry_number table m.width) x (y + 1))
+    (corner_at m (entry_number table m.width) (x + 1) (y + 1))
 block_from_tight m table tight x y =
     let a : Cell = record { x = x; y = y } in
     let b : Cell = record { x = x + 1; y = y } in
@@ -407,12 +411,14 @@ straight_by m table rows u v step (inl (e, inl f)) =
     let same = same_from (ground_at m v.x v.y) (ground_at m u.x u.y) (flip (ground_at m u.x u.y) (ground_at m v.x v.y) (same_from_step m u v step)) in
     (straight_bounds (entry_of m table v) (entry_of m table u) (side_below m table rows v.x v.y u.x u.y e f same)).1
 straight_by m table rows u v step (inl (e, inr f)) =
-    (straight_bounds (entry_of m table u) (entry_of m table v) (side_below m table rows u.x u.y v.x v.y (sym e) f (same_from (ground_at m u.x u.y) (ground_at m v.x v.y) (same_from_step m u v step)))).0
+    (straight_bounds (entry_of m table u) (entry_of m table v) (side_below m table rows u.x u.y v.x v.y (sym e) f
+    (same_from (ground_at m u.x u.y) (ground_at m v.x v.y) (same_from_step m u v step)))).0
 straight_by m table rows u v step (inr (e, inl f)) =
     let same = same_from (ground_at m v.x v.y) (ground_at m u.x u.y) (flip (ground_at m u.x u.y) (ground_at m v.x v.y) (same_from_step m u v step)) in
     (straight_bounds (entry_of m table v) (entry_of m table u) (side_right m table rows v.x v.y u.x u.y f e same)).1
 straight_by m table rows u v step (inr (e, inr f)) =
-    (straight_bounds (entry_of m table u) (entry_of m table v) (side_right m table rows u.x u.y v.x v.y f (sym e) (same_from (ground_at m u.x u.y) (ground_at m v.x v.y) (same_from_step m u v step)))).0
+    (straight_bounds (entry_of m table u) (entry_of m table v) (side_right m table rows u.x u.y v.x v.y f (sym e)
+    (same_from (ground_at m u.x u.y) (ground_at m v.x v.y) (same_from_step m u v step)))).0
 
 diagonal_by : (m : Grid) (table : List (Option Length)) → AllBlocks m table → (u v : Cell) → IsDiagonalStep m u v → AreNext u.x v.x → AreNext u.y v.y
     → Bounds 0 1 (entry_of m table u) (entry_of m table v)

@@ -37,7 +37,7 @@ pub(crate) struct Key {
 }
 
 /// The keys of one straight and of one diagonal step more than another.
-#[derive(Clone, Copy, Debug)]
+#[derive(Clone, Copy)]
 pub(crate) struct Steps {
     pub(crate) straight: Key,
     pub(crate) diagonal: Key,

@@ -14,7 +14,7 @@ use grid::Map;
 
 /// What the map and the table say of a cell. Land and water have a bit each of its grounds, since a
 /// branch on them could not be foreseen.
-#[derive(Clone, Copy, Debug)]
+#[derive(Clone, Copy)]
 pub(crate) struct Corner {
     grounds: u64,
     key: u64,
@@ -27,7 +27,7 @@ const STRIP: u32 = 64;
 const BAND: u32 = 64;
 
 /// What the cells of one row say in a strip, and in the column behind it.
-#[derive(Clone, Copy, Debug)]
+#[derive(Clone, Copy)]
 pub(crate) struct Corners {
     grounds: [u64; STRIP as usize + 1],
     keys: [u64; STRIP as usize + 1],

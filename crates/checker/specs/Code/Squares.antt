@@ -7,7 +7,7 @@ use Rattle.grid.specs.declared.terrain.Terrain.{Terrain}
 use Rattle.grid.specs.Terrain.{character_of}
 use Rattle.checker.specs.declared.board.Square.{Square}
 use Rattle.checker.specs.Code.Standing.{IsOnGrid, place_in}
-use Rattle.checker.specs.Code.Walking.{is_land_character}
+use Rattle.grid.specs.Code.Joining.{is_land_character}
 
 -- ---- a square
 

@@ -1,13 +1,10 @@
 -- What a checker has seen up to a time.
-use Rattle.std.specs.Prelude.{◌≡◌, ℕ, ◌+◌, ◌*◌, ◌<◌, List, length, Option, MatchOption}
-use Rattle.grid.specs.declared.cell.Cell.{Cell}
+use Rattle.std.specs.Prelude.{◌≡◌, ℕ, ◌+◌, ◌<◌, List, length, Option, MatchOption}
 use Rattle.grid.specs.Map.{Grid}
 use Rattle.model.specs.declared.plan_fault.PlanFault.{PlanFault}
 use Rattle.model.specs.Plan.{Plan, HasPlanFault, IsValid, key_of, IsLeastFault}
-use Rattle.checker.specs.Code.Standing.{AreOnGrid, IsStandingTable}
 use Rattle.checker.specs.declared.board.Square.{Square}
 use Rattle.checker.specs.declared.crowd.Walker.{Walker}
-use Rattle.checker.specs.Code.Walking.{AreAt}
 use Rattle.checker.specs.Code.Crowd.{walker_at, first_mark, AreMarksOf}
 use Rattle.checker.specs.Code.UnderWay.{AreUnderWay}
 
@@ -18,27 +15,6 @@ IsVerdict m p answer = MatchOption answer (IsValid m p) (IsLeastFault m p)
 -- no fault comes before the time
 abbrev pub IsClean : Grid → Plan → ℕ → Type 0
 IsClean m p t = (fault : PlanFault) → HasPlanFault m p fault → (key_of fault).time < t → ⊥
-
--- there was no fault up to the time, and the cells and the table are those of the time
-pub record IsWatched (m : Grid) (p : Plan) (t : ℕ) (cells : List Cell)
-    (entries : List ℕ) : Type 0 where
-  pub at : AreAt p.courses t cells
-  pub on_map : AreOnGrid m cells
-  pub size : length entries ≡ m.width * m.height
-  pub table : IsStandingTable m.width cells entries
-  pub clean : IsClean m p (t + 1)
-
--- the same at a time, or the least fault
-abbrev pub IsWatchedAt : Grid → Plan → ℕ → List Cell → List ℕ → Option PlanFault → Type 0
-IsWatchedAt m p t cells entries answer =
-    MatchOption answer (IsWatched m p t cells entries) (IsLeastFault m p)
-
--- there was no fault up to the time, and these are the cells of the time
-pub record IsCleanUpTo (m : Grid) (p : Plan) (t : ℕ) : Type 0 where
-  pub cells : List Cell
-  pub at : AreAt p.courses t cells
-  pub on_map : AreOnGrid m cells
-  pub clean : IsClean m p (t + 1)
 
 -- There was no fault up to the time, the agents under way are where they are at the time, and all
 -- marks are of the step that led there, which has the marks of the step after the next.

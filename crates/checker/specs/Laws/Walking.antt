@@ -1,20 +1,17 @@
 -- Legal steps, and the acts of a step.
-use Rattle.std.proofs.Common.{◌≡◌, ◌≢◌, ℕ, zero, suc, ◌+◌, ◌*◌, ◌<◌, ◌≤◌, pos, ◌+ℤ◌}
-use Rattle.std.proofs.Common.{◌-ℤ◌, Bool, true, false, cond, map, List, [], ◌∷◌, length, get_or}
+use Rattle.std.proofs.Common.{◌≡◌, ◌≢◌, ℕ, zero, suc, ◌+◌, ◌<◌, ◌≤◌, pos, ◌+ℤ◌}
+use Rattle.std.proofs.Common.{◌-ℤ◌, Bool, true, false, cond, List, [], ◌∷◌, length, get_or}
 use Rattle.std.proofs.Common.{Some, None, arith, refl, sym, ap, subst, inl, inr, ◌∙◌}
-use Rattle.std.specs.Prelude.{Option, MatchOption, IsTrue, ◌&&◌, ◌||◌, ◌==◌, nat_lt, slice_get}
+use Rattle.std.specs.Prelude.{Option, MatchOption, ◌&&◌, nat_lt, slice_get}
 use Rattle.std.proofs.lemmas.Bool.{cases_lt, cond-true, and_parts, and_from}
 use Rattle.std.proofs.lemmas.Bool.{ltb-true, ltb-false, lt-ltb}
 use Rattle.std.proofs.lemmas.List.Elements.{All-get_or, All-from_recursion}
 use Rattle.std.proofs.lemmas.Int.{ints}
-use Rattle.std.proofs.lemmas.List.{get_or-map}
 use Rattle.std.proofs.lemmas.Option.{slice_get_past, slice_get_within}
 use Rattle.std.proofs.lemmas.Option.{slice_get-get_or, get_or_from_slice_get}
 use Rattle.grid.specs.declared.cell.Cell.{Cell}
 use Rattle.grid.specs.declared.terrain.Terrain.{Terrain}
-use Rattle.grid.specs.declared.terrain.Terrain.TheVariants.{Floor, Grass, Void, OutOfBounds}
-use Rattle.grid.specs.declared.terrain.Terrain.TheVariants.{Trees, Swamp, Water}
-use Rattle.grid.specs.Terrain.{Class, land, swamp, water, blocked, character_of, class_of, joins}
+use Rattle.grid.specs.declared.terrain.Terrain.TheVariants.{Floor}
 use Rattle.grid.specs.Map.{Grid, IsSize, IsMap, terrain_at, ShareSide, AreJoined, IsStraightStep}
 use Rattle.model.specs.declared.act.Act.{Act}
 use Rattle.model.specs.declared.act.Act.TheVariants.{N, E, S, W, Wait}
@@ -25,8 +22,8 @@ use Rattle.model.specs.Laws.Options.{some-found}
 use Rattle.plan_text.specs.Limits.{IsCourse, IsPlan}
 use Rattle.checker.specs.Code.Standing.{place_in, IsOnGrid}
 use Rattle.checker.specs.Moving.{cell_by}
-use Rattle.checker.specs.Code.Walking.{is_within_acts, has_act, IsMoved}
-use Rattle.checker.specs.Code.Walking.{LeadsBeside, is_land_character, joins_by}
+use Rattle.checker.specs.Code.Walking.{is_within_acts, has_act}
+use Rattle.checker.specs.Code.Walking.{LeadsBeside}
 use Rattle.checker.specs.Code.Walking.{LeadsTo, IsAhead, HasBadMove}
 
 -- ---- legal steps
@@ -44,7 +41,7 @@ on_map_from_terrain m c P h =
     (on_map_by (nat_lt c.x m.width && nat_lt c.y m.height) (slice_get m.terrain _) P h) in
     record { column = ltb-true c.x m.width both.0; row = ltb-true c.y m.height both.1 }
 
-joined_to : (s t : Option Terrain) → AreJoined s t → MatchOption t ⊥ (λ u. Unit {0})
+pub joined_to : (s t : Option Terrain) → AreJoined s t → MatchOption t ⊥ (λ u. Unit {0})
 joined_to None t h = absurd h
 joined_to (Some s) None h = absurd h
 joined_to (Some s) (Some t) h = tt
@@ -137,59 +134,6 @@ no_step m from to act (inl at) none h =
     none (step_from_legal m from to (moved act (position_of from)) at h).joined
 no_step m from to act (inr apart) none h = apart.0 h.v h.is_to
 
--- ---- the characters of a map
-
-abbrev is_land_class : Class → Bool
-is_land_class land = true
-is_land_class swamp = true
-is_land_class _ = false
-
-abbrev is_water_class : Class → Bool
-is_water_class water = true
-is_water_class _ = false
-
-land-character : (t : Terrain) → is_land_character (character_of t) ≡ is_land_class (class_of t)
-land-character Floor = refl
-land-character Grass = refl
-land-character Void = refl
-land-character OutOfBounds = refl
-land-character Trees = refl
-land-character Swamp = refl
-land-character Water = refl
-
-water-character : (t : Terrain) → (character_of t == 87) ≡ is_water_class (class_of t)
-water-character Floor = refl
-water-character Grass = refl
-water-character Void = refl
-water-character OutOfBounds = refl
-water-character Trees = refl
-water-character Swamp = refl
-water-character Water = refl
-
-joins_class : (c d : Class)
-    → ((is_land_class c && is_land_class d) || (is_water_class c && is_water_class d)) ≡ joins c d
-joins_class land land = refl
-joins_class land swamp = refl
-joins_class land water = refl
-joins_class land blocked = refl
-joins_class swamp land = refl
-joins_class swamp swamp = refl
-joins_class swamp water = refl
-joins_class swamp blocked = refl
-joins_class water land = refl
-joins_class water swamp = refl
-joins_class water water = refl
-joins_class water blocked = refl
-joins_class blocked land = refl
-joins_class blocked swamp = refl
-joins_class blocked water = refl
-joins_class blocked blocked = refl
-
-joins-characters
-    : (t u : Terrain) → joins_by (character_of t) (character_of u) ≡ joins (class_of t) (class_of u)
-joins-characters t u =
-    simp (land-character, water-character) (joins_class (class_of t) (class_of u))
-
 -- the terrain of a cell on the map, and its character
 pub terrain_on : (m : Grid) (c : Cell) → IsMap m → IsOnGrid m c
     → place_in m.width c < length m.terrain
@@ -199,29 +143,6 @@ terrain_on m c is_map on within =
     (and_from (nat_lt c.x m.width) (nat_lt c.y m.height) (lt-ltb c.x m.width on.column)
     (lt-ltb c.y m.height on.row))
     ∙ slice_get-get_or m.terrain (place_in m.width c) Floor within
-
-pub joined-characters : (m : Grid) (u v : Cell) (p q : ℕ) → IsMap m → IsOnGrid m u → IsOnGrid m v
-    → p ≡ place_in m.width u → q ≡ place_in m.width v
-    → p < m.width * m.height → q < m.width * m.height
-    → IsTrue (joins_by (get_or (map character_of m.terrain) p 0)
-    (get_or (map character_of m.terrain) q 0)) ≡ AreJoined (terrain_at m u) (terrain_at m v)
-joined-characters m u v p q is_map on_u on_v at_u at_v within_u within_v =
-    let count = is_map.cells in
-    let t = get_or m.terrain (place_in m.width u) Floor in
-    let s = get_or m.terrain (place_in m.width v) Floor in
-    let less_u : place_in m.width u < length m.terrain = omega (arith, count, at_u, within_u) in
-    let less_v : place_in m.width v < length m.terrain = omega (arith, count, at_v, within_v) in
-    let first : get_or (map character_of m.terrain) p 0 ≡ character_of t =
-    ap (λ k. get_or (map character_of m.terrain) k 0) at_u ∙ get_or-map character_of m.terrain
-    (place_in m.width u) Floor 0 less_u in
-    let second : get_or (map character_of m.terrain) q 0 ≡ character_of s =
-    ap (λ k. get_or (map character_of m.terrain) k 0) at_v ∙ get_or-map character_of m.terrain
-    (place_in m.width v) Floor 0 less_v in
-    ap (λ b. IsTrue (joins_by b (get_or (map character_of m.terrain) q 0))) first
-    ∙ ap (λ b. IsTrue (joins_by (character_of t) b)) second
-    ∙ ap IsTrue (joins-characters t s)
-    ∙ ap (λ o. AreJoined o (Some s)) (sym (terrain_on m u is_map on_u less_u))
-    ∙ ap (λ o. AreJoined (terrain_at m u) o) (sym (terrain_on m v is_map on_v less_v))
 
 -- ---- acts
 
@@ -309,16 +230,6 @@ bad-moved m course step from act is at acts illegal =
       λ legal. illegal
           (subst (λ P. P) (sym (legal_there m course step from act is at)) legal),
     )
-
--- where the act of a step leads
-pub act-leads : (m : Grid) (course : Course) (step : ℕ) (from : Cell) (act : Act)
-    (answer : Option Cell) → slice_get course.acts step ≡ Some act
-    → position_of from ≡ position_at course step → IsMoved m from act answer
-    → MatchOption answer (IsBadMove m course step) (IsAhead m course step)
-act-leads m course step from act None is at (acts, illegal) =
-    bad-moved m course step from act is at acts illegal
-act-leads m course step from act (Some to) is at leads =
-    ahead-moved m course step from to act is at leads
 
 -- an act that is no wait or a legal step leads to a cell of the map
 steps_on : (m : Grid) (from : Cell) (act : Act) → IsOnGrid m from

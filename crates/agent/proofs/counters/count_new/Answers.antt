@@ -16,10 +16,18 @@ loop-number-preserved c =
     elim c.if-is_none.branch [
       | then-is_none w ↦ (
           let none = own ∙ ap (λ b. if b then 1 else 0) (c.is_none.ensures ∙ ap not w.if-is_none.true) in
-          record { count = omega (arith, lengths, parts, none); few = omega arith; rising = (c.entry.result.agent + 1, rising.1, omega (arith, rising.0, c.loop-number.invariant.rising.2), omega arith) }
+          record {
+            count = omega (arith, lengths, parts, none);
+            few = omega arith;
+            rising = (c.entry.result.agent + 1, rising.1, omega (arith, rising.0, c.loop-number.invariant.rising.2), omega arith);
+          }
           )
       | else-is_none w ↦ (
           let some = own ∙ ap (λ b. if b then 1 else 0) (c.is_none.ensures ∙ ap not w.if-is_none.false) in
-          record { count = omega (arith, lengths, parts, some); few = omega arith; rising = (c.entry.result.agent + 1, rising.1, omega (arith, rising.0, c.loop-number.invariant.rising.2), omega arith) }
+          record {
+            count = omega (arith, lengths, parts, some);
+            few = omega arith;
+            rising = (c.entry.result.agent + 1, rising.1, omega (arith, rising.0, c.loop-number.invariant.rising.2), omega arith);
+          }
           )
     ]

@@ -11,6 +11,7 @@ loop-number-preserved c =
     let number = c.loop-number.number in
     let stepped = merged_step es number _ _ _ _ _ c.entry-agent.ensures c.part-own.ensures in
     let raised = c.max.ensures ∙ ap (λ n. max n c.entry-agent.result.done) c.unwrap_or.ensures in
-    let by_code = subst (λ n. merged (drop number es) c.loop-number.rest.now ≡ c.part-own.result.0.now ++ (record { agent = c.entry-agent.result.agent; done = n } ∷ merged (drop (number + 1) es) c.part-own.result.2.now))
+    let by_code = subst (λ n. merged (drop number es) c.loop-number.rest.now ≡ c.part-own.result.0.now ++
+    (record { agent = c.entry-agent.result.agent; done = n } ∷ merged (drop (number + 1) es) c.part-own.result.2.now))
     (sym raised) stepped in
     appended _ _ _ _ _ _ _ _ c.in_ok-extend_from_slice.ensures.items c.in_ok-push.ensures.items by_code c.loop-number.invariant

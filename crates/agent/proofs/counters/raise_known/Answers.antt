@@ -39,5 +39,6 @@ loop-number-preserved c =
                 (known_step list next lesser (counter w.in-Some.old) others c.loop-number.invariant.within there es number (counter w.max.result) all stepped c.loop-number.invariant.raised));
           }
           )
-      | in_default w ↦ absurd (none_missing es number c.entry-agent.result list next _ _ _ _ c.entry-agent.ensures c.loop-number.invariant.within parted w.in_default.is c.requires c.loop-number.invariant.same_length c.loop-number.invariant.raised)
+      | in_default w ↦ absurd (none_missing es number c.entry-agent.result list next _ _ _ _ c.entry-agent.ensures c.loop-number.invariant.within parted w.in_default.is c.requires
+          c.loop-number.invariant.same_length c.loop-number.invariant.raised)
     ]

@@ -14,7 +14,8 @@ whole : (c : goal.After-from_be_bytes-in-None) → IsWhole (read_of c.args.bytes
 whole c =
     let bytes = c.args.bytes.now in
     let same = all_behind bytes in
-    read-whole bytes c.from_be_bytes-in-None.result c.from_be_bytes.result c.from_be_bytes-count.result (λ i. omega (arith, c.type_inv.bytes i)) c.from_be_bytes-in-None.type_inv c.from_be_bytes.type_inv c.from_be_bytes-count.type_inv
+    read-whole bytes c.from_be_bytes-in-None.result c.from_be_bytes.result c.from_be_bytes-count.result (λ i. omega (arith, c.type_inv.bytes i)) c.from_be_bytes-in-None.type_inv
+    c.from_be_bytes.type_inv c.from_be_bytes-count.type_inv
     (let count = ap length same in let length_is = c.if-spelled-count.false in omega (arith, count, length_is)) (ap (λ l. wrong_entry 0 0 (entries_in l)) (sym same) ∙ sym c.in-None.ensures)
 
 pub invariant_of-result : goal.invariant_of-result

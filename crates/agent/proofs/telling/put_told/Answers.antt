@@ -5,5 +5,6 @@ use Rattle.agent.proofs.telling.put_told.Goals as goal
 
 pub returns-else-is_err-clause-put : goal.returns-else-is_err-clause-put
 returns-else-is_err-clause-put c =
-    on_ok_weaker c.put_parts-put.result (λ put agents less within. put ∙ ap (λ l. c.args.entries.now.items ++ l) (sym (entries_told agents c.args.from c.args.done c.args.counters.now _ _ c.around.ensures less within)))
+    on_ok_weaker c.put_parts-put.result (λ put agents less within. put ∙ ap (λ l. c.args.entries.now.items ++ l)
+    (sym (entries_told agents c.args.from c.args.done c.args.counters.now _ _ c.around.ensures less within)))
     c.put_parts-put.ensures.put

@@ -10,7 +10,8 @@ use Rattle.agent_commands.proofs.opening.open_tape.Goals as goal
 pub returns-in_err-look_before_making : goal.returns-in_err-look_before_making
 returns-in_err-look_before_making g c p on table is =
     let q = err_from_is_err_and c.from_residual.result c.from_residual.ensures.1 in
-    rw (q.1, q.2) (not_made g.R.File.Read.remaining (claim_of c.args.terms.now) p table c.args.part.now.agent _ (is.track, is.is_track) c.in_err-look_before_making.ensures.new c.in_err-look_before_making.ensures.beside)
+    rw (q.1, q.2) (not_made g.R.File.Read.remaining (claim_of c.args.terms.now) p table c.args.part.now.agent _ (is.track, is.is_track) c.in_err-look_before_making.ensures.new
+    c.in_err-look_before_making.ensures.beside)
 
 pub returns-in_err-opened : goal.returns-in_err-opened
 returns-in_err-opened g c p on table is =

@@ -26,6 +26,7 @@ returns g c =
     let part = subst (IsPartFor read.0 c.args.id) c.in-Some.is read.2 in
     let lent = c.part.ensures in
     let is = subst (IsPartOf read.0) (sym lent) part.0 in
-    let kept = subst (λ i. MatchResult c.read_report.result (IsReported g.T.Read.remaining read.0 i c.args.tape.now c.read_report.new.file) (IsNotShown g.T.Read.remaining read.0 i c.args.tape.now c.read_report.new.file))
+    let kept = subst (λ i. MatchResult c.read_report.result (IsReported g.T.Read.remaining read.0 i c.args.tape.now c.read_report.new.file)
+    (IsNotShown g.T.Read.remaining read.0 i c.args.tape.now c.read_report.new.file))
     (ap (λ p. p.agent) lent ∙ part.1) (c.read_report.ensures.reports read.0 is) in
     record { read = Ok read.0; reads = read.1; ends = as_text g.T.Read.remaining read.0 c.args.id c.args.tape.now c.read_report.new.file c.read_report.result kept }

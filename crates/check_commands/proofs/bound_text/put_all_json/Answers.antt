@@ -16,7 +16,8 @@ returns-in_err-put_sums_json-clause-err g c =
     let head = sums_json (sum_of_costs timetable) (sum c.args.bounds.now) (makespan timetable) (greatest_bound c.args.bounds.now) ++ codes ",\"agents\":[" in
     let objects = agent_bounds_json pairs in
     let end = codes "]}\n" in
-    let all = Leaves-all g.W.Write.contents _ _ (head ++ (objects ++ end)) (append_assoc (sums_json (sum_of_costs timetable) (sum c.args.bounds.now) (makespan timetable) (greatest_bound c.args.bounds.now)) (codes ",\"agents\":[") (objects ++ end)) in
+    let all = Leaves-all g.W.Write.contents _ _ (head ++ (objects ++ end)) (append_assoc (sums_json (sum_of_costs timetable) (sum c.args.bounds.now) (makespan timetable)
+    (greatest_bound c.args.bounds.now)) (codes ",\"agents\":[") (objects ++ end)) in
     rw p.1 (Leaves-broken g.W.Write.contents _ _ _ _ head (objects ++ end) _ all refl c.in_err-put_sums_json.ensures.err)
 
 pub returns-in_err-put_objects-clause-err : goal.returns-in_err-put_objects-clause-err
@@ -27,7 +28,8 @@ returns-in_err-put_objects-clause-err g c =
     let head = sums_json (sum_of_costs timetable) (sum c.args.bounds.now) (makespan timetable) (greatest_bound c.args.bounds.now) ++ codes ",\"agents\":[" in
     let objects = agent_bounds_json pairs in
     let end = codes "]}\n" in
-    let all = Leaves-all g.W.Write.contents _ _ (head ++ (objects ++ end)) (append_assoc (sums_json (sum_of_costs timetable) (sum c.args.bounds.now) (makespan timetable) (greatest_bound c.args.bounds.now)) (codes ",\"agents\":[") (objects ++ end)) in
+    let all = Leaves-all g.W.Write.contents _ _ (head ++ (objects ++ end)) (append_assoc (sums_json (sum_of_costs timetable) (sum c.args.bounds.now) (makespan timetable)
+    (greatest_bound c.args.bounds.now)) (codes ",\"agents\":[") (objects ++ end)) in
     let sums = Leaves-less g.W.Write.contents _ _ _ _ head (objects ++ end) _ all refl c.in_ok-put_sums_json.ensures.ok in
     rw p.1 (Leaves-broken g.W.Write.contents _ _ _ _ objects end _ sums refl c.in_err-put_objects.ensures.err)
 
@@ -38,7 +40,8 @@ returns-clause-ok g c =
     let head = sums_json (sum_of_costs timetable) (sum c.args.bounds.now) (makespan timetable) (greatest_bound c.args.bounds.now) ++ codes ",\"agents\":[" in
     let objects = agent_bounds_json pairs in
     let end = codes "]}\n" in
-    let all = Leaves-all g.W.Write.contents _ _ (head ++ (objects ++ end)) (append_assoc (sums_json (sum_of_costs timetable) (sum c.args.bounds.now) (makespan timetable) (greatest_bound c.args.bounds.now)) (codes ",\"agents\":[") (objects ++ end)) in
+    let all = Leaves-all g.W.Write.contents _ _ (head ++ (objects ++ end)) (append_assoc (sums_json (sum_of_costs timetable) (sum c.args.bounds.now) (makespan timetable)
+    (greatest_bound c.args.bounds.now)) (codes ",\"agents\":[") (objects ++ end)) in
     let sums = Leaves-less g.W.Write.contents _ _ _ _ head (objects ++ end) _ all refl c.in_ok-put_sums_json.ensures.ok in
     let agents = Leaves-less g.W.Write.contents _ _ _ _ objects end _ sums refl c.in_ok-put_objects.ensures.ok in
     Puts-last g.W.Write.contents _ _ _ _ end _ c.put.result agents refl c.put.ensures.ok
@@ -50,7 +53,8 @@ returns-clause-err g c =
     let head = sums_json (sum_of_costs timetable) (sum c.args.bounds.now) (makespan timetable) (greatest_bound c.args.bounds.now) ++ codes ",\"agents\":[" in
     let objects = agent_bounds_json pairs in
     let end = codes "]}\n" in
-    let all = Leaves-all g.W.Write.contents _ _ (head ++ (objects ++ end)) (append_assoc (sums_json (sum_of_costs timetable) (sum c.args.bounds.now) (makespan timetable) (greatest_bound c.args.bounds.now)) (codes ",\"agents\":[") (objects ++ end)) in
+    let all = Leaves-all g.W.Write.contents _ _ (head ++ (objects ++ end)) (append_assoc (sums_json (sum_of_costs timetable) (sum c.args.bounds.now) (makespan timetable)
+    (greatest_bound c.args.bounds.now)) (codes ",\"agents\":[") (objects ++ end)) in
     let sums = Leaves-less g.W.Write.contents _ _ _ _ head (objects ++ end) _ all refl c.in_ok-put_sums_json.ensures.ok in
     let agents = Leaves-less g.W.Write.contents _ _ _ _ objects end _ sums refl c.in_ok-put_objects.ensures.ok in
     Breaks-last g.W.Write.contents _ _ _ _ end _ c.put.result agents refl c.put.ensures.err

@@ -9,7 +9,8 @@ use Rattle.check_commands.proofs.bound_text.put_bounds.Goals as goal
 pub returns-clause-ok : goal.returns-clause-ok
 returns-clause-ok g c =
     let timetable = c.args.plan.now.timetable in
-    let text = bound_text c.args.form.agents c.args.form.json (costs_and_bounds timetable.tracks c.args.bounds.now) (sum_of_costs timetable) (sum c.args.bounds.now) (makespan timetable) (greatest_bound c.args.bounds.now) in
+    let text = bound_text c.args.form.agents c.args.form.json (costs_and_bounds timetable.tracks c.args.bounds.now) (sum_of_costs timetable) (sum c.args.bounds.now) (makespan timetable)
+    (greatest_bound c.args.bounds.now) in
     let all = Leaves-all g.W.Write.contents _ text (text ++ []) (append-nil text) in
     let last = Leaves-less g.W.Write.contents _ _ _ _ text [] _ all refl c.in_ok-put_bound_text.ensures.ok in
     Puts-last g.W.Write.contents _ _ _ _ [] _ c.hand_on.result last refl c.hand_on.ensures.ok
@@ -17,7 +18,8 @@ returns-clause-ok g c =
 pub returns-clause-err : goal.returns-clause-err
 returns-clause-err g c =
     let timetable = c.args.plan.now.timetable in
-    let text = bound_text c.args.form.agents c.args.form.json (costs_and_bounds timetable.tracks c.args.bounds.now) (sum_of_costs timetable) (sum c.args.bounds.now) (makespan timetable) (greatest_bound c.args.bounds.now) in
+    let text = bound_text c.args.form.agents c.args.form.json (costs_and_bounds timetable.tracks c.args.bounds.now) (sum_of_costs timetable) (sum c.args.bounds.now) (makespan timetable)
+    (greatest_bound c.args.bounds.now) in
     let all = Leaves-all g.W.Write.contents _ text (text ++ []) (append-nil text) in
     let last = Leaves-less g.W.Write.contents _ _ _ _ text [] _ all refl c.in_ok-put_bound_text.ensures.ok in
     Breaks-last g.W.Write.contents _ _ _ _ [] _ c.hand_on.result last refl c.hand_on.ensures.err

@@ -24,7 +24,8 @@ returns-in-Err-checked g c =
     record {
       came = refused on.map read.0 r.fault;
       comes = (read.1, told.1);
-      ends = subst (λ plan. EndsByRefusal g.W.Write.contents c.args.terms.now.all c.args.terms.now.json on.map plan r.fault c.args.out.now c.refuse.new.out (end_of c.refuse.result)) told.0 c.refuse.ensures;
+      ends = subst (λ plan. EndsByRefusal g.W.Write.contents c.args.terms.now.all c.args.terms.now.json on.map plan r.fault c.args.out.now c.refuse.new.out (end_of c.refuse.result)) told.0
+          c.refuse.ensures;
     }
 
 pub returns-in-Ok-count : goal.returns-in-Ok-count

@@ -24,7 +24,8 @@ returns-in-Err-checked g c =
     record {
       came = refused on.map read.0 r.fault;
       comes = (read.1, told.1, refl);
-      ends = subst (λ plan. EndsByRefusal g.W.Write.contents c.args.terms.now.all c.args.terms.now.json on.map plan r.fault c.args.out.now c.refuse.new.out (end_of c.refuse.result)) told.0 c.refuse.ensures;
+      ends = subst (λ plan. EndsByRefusal g.W.Write.contents c.args.terms.now.all c.args.terms.now.json on.map plan r.fault c.args.out.now c.refuse.new.out (end_of c.refuse.result)) told.0
+          c.refuse.ensures;
     }
 
 pub returns-in-Ok-Ok : goal.returns-in-Ok-Ok
@@ -45,7 +46,13 @@ returns-in-Ok-Err g c =
     let told = subst (λ checked. MatchResult checked (IsCheckOf on.map read.0) (λ r. (r.plan ≡ read.0) × IsRefusedFor on.map read.0 r.fault)) c.in-Ok-checked.is read.2 in
     record {
       came = differing c.in-Ok-Err.fault;
-      comes = (on.map, c.in-Ok-checked.plan, (read.0, read.1, told), subst (ReadsAndFits g.S.Read.remaining c.args.scen.now c.fit.new.scen c.in-Ok-checked.plan c.args.terms.now.due) c.in-Ok-Err.field-0-is c.in-Ok-Err.ensures);
+      comes = (
+        on.map,
+        c.in-Ok-checked.plan,
+        (read.0, read.1, told),
+        subst (ReadsAndFits g.S.Read.remaining c.args.scen.now c.fit.new.scen c.in-Ok-checked.plan c.args.terms.now.due)
+            c.in-Ok-Err.field-0-is c.in-Ok-Err.ensures,
+      );
       ends = c.differ.ensures;
     }
 

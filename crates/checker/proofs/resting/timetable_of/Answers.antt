@@ -25,7 +25,8 @@ pub returns : goal.returns
 returns c =
     let law = c.timetables.ensures in
     let laws : TimetableLaws = record { some = law.some; conflict_free = law.conflict_free; swap_free = law.swap_free; at_rest = law.at_rest; no_longer = law.no_longer } in
-    subst (IsCheckOf c.args.grid.now c.args.plan) (sym (c.from_courses.ensures ∙ same c.width.result c.args.grid.now.width c.height.result c.args.grid.now.height c.number-number.result c.args.plan.number
+    subst (IsCheckOf c.args.grid.now c.args.plan) (sym (c.from_courses.ensures ∙ same c.width.result c.args.grid.now.width c.height.result c.args.grid.now.height c.number-number.result
+    c.args.plan.number
     c.rested-courses.result.items (map rested c.args.plan.courses) c.width.ensures.width c.height.ensures.height c.number-number.ensures.number
     (c.rested-courses.ensures ∙ ap (map rested) c.into_courses.ensures)))
     (is_check laws c.args.grid.now c.args.plan c.requires)

@@ -30,7 +30,43 @@ no_words name rows other has =
 pub returns-in_default-clause-err : goal.returns-in_default-clause-err
 returns-in_default-clause-err c = λ words numbers. absurd (no_words c.args.name.now _ (
   c.in_default.not-map,
-  (c.in_default.not-scen, (c.in_default.not-row, (c.in_default.not-rows, (c.in_default.not-check, (c.in_default.not-bound, (c.in_default.not-deps, (c.in_default.not-path, (c.in_default.not-cut, (c.in_default.not-continues, (c.in_default.not-optimal, (c.in_default.not-run, (c.in_default.not-agent, (c.in_default.not-tape, (c.in_default.not-status, (c.in_default.not-handover, (c.in_default.not-anew, tt)))))))))))))))),
+  (
+    c.in_default.not-scen,
+    (
+      c.in_default.not-row,
+      (
+        c.in_default.not-rows,
+        (
+          c.in_default.not-check,
+          (
+            c.in_default.not-bound,
+            (
+              c.in_default.not-deps,
+              (
+                c.in_default.not-path,
+                (
+                  c.in_default.not-cut,
+                  (
+                    c.in_default.not-continues,
+                    (
+                      c.in_default.not-optimal,
+                      (
+                        c.in_default.not-run,
+                        (
+                          c.in_default.not-agent,
+                          (c.in_default.not-tape, (c.in_default.not-status, (c.in_default.not-handover, (c.in_default.not-anew, tt)))),
+                        ),
+                      ),
+                    ),
+                  ),
+                ),
+              ),
+            ),
+          ),
+        ),
+      ),
+    ),
+  ),
 ) words)
 
 -- the search gives up on the values of these

@@ -43,7 +43,8 @@ loop-agent-preserved c =
     record {
       count = (let long = ap length items in let more = length-append old (own ∷ []) in omega (arith, long, more, count));
       each = λ b less. elim (cases_lt b agent) [
-        | inl before ↦ subst (λ f. ComesNextAt m 0 f × (f.agent ≡ b)) (sym (ap (λ l. follower_at l b) items ∙ get_or_append_left old _ no_follower b (omega (arith, before, count)))) (was.each b before)
+        | inl before ↦ subst (λ f. ComesNextAt m 0 f × (f.agent ≡ b)) (sym (ap (λ l. follower_at l b) items ∙ get_or_append_left old _ no_follower b (omega (arith, before, count))))
+            (was.each b before)
         | inr end ↦ (
             let same : length old ≡ b = omega (arith, less, end, count) in
             let is : agent ≡ b = omega (arith, same, count) in

@@ -24,39 +24,46 @@ loop-entry-init c =
 
 pub offset_bounds-meetings-entry : goal.offset_bounds-meetings-entry
 offset_bounds-meetings-entry c =
-    let in_all = comer-inside c.args.meetings.now c.requires.meetings c.args.time c.args.follower.now.agent c.loop-entry.entry c.requires.at.agent c.loop-entry.invariant.comes (subst (λ i. c.loop-entry.entry < get_or c.args.meetings.now.ends.now i 0) c.from-2.ensures c.loop-entry-test.true) in
+    let in_all = comer-inside c.args.meetings.now c.requires.meetings c.args.time c.args.follower.now.agent c.loop-entry.entry c.requires.at.agent c.loop-entry.invariant.comes
+    (subst (λ i. c.loop-entry.entry < get_or c.args.meetings.now.ends.now i 0) c.from-2.ensures c.loop-entry-test.true) in
     let inside = in_all.0 in
     let all = in_all.3 in
     omega (arith, inside, all)
 
 pub bounds-meetings-entry : goal.bounds-meetings-entry
-bounds-meetings-entry c = (comer-inside c.args.meetings.now c.requires.meetings c.args.time c.args.follower.now.agent c.loop-entry.entry c.requires.at.agent c.loop-entry.invariant.comes (subst (λ i. c.loop-entry.entry < get_or c.args.meetings.now.ends.now i 0) c.from-2.ensures c.loop-entry-test.true)).0
+bounds-meetings-entry c = (comer-inside c.args.meetings.now c.requires.meetings c.args.time c.args.follower.now.agent c.loop-entry.entry c.requires.at.agent c.loop-entry.invariant.comes
+    (subst (λ i. c.loop-entry.entry < get_or c.args.meetings.now.ends.now i 0) c.from-2.ensures c.loop-entry-test.true)).0
 
 pub offset_bounds-meetings-entry-in-loop-entry : goal.offset_bounds-meetings-entry-in-loop-entry
 offset_bounds-meetings-entry-in-loop-entry c =
-    let in_all = comer-inside c.args.meetings.now c.requires.meetings c.args.time c.args.follower.now.agent c.loop-entry.entry c.requires.at.agent c.loop-entry.invariant.comes (subst (λ i. c.loop-entry.entry < get_or c.args.meetings.now.ends.now i 0) c.from-2.ensures c.loop-entry-test.true) in
+    let in_all = comer-inside c.args.meetings.now c.requires.meetings c.args.time c.args.follower.now.agent c.loop-entry.entry c.requires.at.agent c.loop-entry.invariant.comes
+    (subst (λ i. c.loop-entry.entry < get_or c.args.meetings.now.ends.now i 0) c.from-2.ensures c.loop-entry-test.true) in
     let inside = in_all.0 in
     let all = in_all.3 in
     omega (arith, inside, all)
 
 pub bounds-meetings-entry-in-loop-entry : goal.bounds-meetings-entry-in-loop-entry
-bounds-meetings-entry-in-loop-entry c = (comer-inside c.args.meetings.now c.requires.meetings c.args.time c.args.follower.now.agent c.loop-entry.entry c.requires.at.agent c.loop-entry.invariant.comes (subst (λ i. c.loop-entry.entry < get_or c.args.meetings.now.ends.now i 0) c.from-2.ensures c.loop-entry-test.true)).1
+bounds-meetings-entry-in-loop-entry c = (comer-inside c.args.meetings.now c.requires.meetings c.args.time c.args.follower.now.agent c.loop-entry.entry c.requires.at.agent c.loop-entry.invariant.comes
+    (subst (λ i. c.loop-entry.entry < get_or c.args.meetings.now.ends.now i 0) c.from-2.ensures c.loop-entry-test.true)).1
 
 pub overflow_cast-coming : goal.overflow_cast-coming
 overflow_cast-coming c =
     let begin = c.begin_in-begin.ensures ∙ ap (begin_in c.args.meetings.now.ends.now) c.from.ensures in
-    let few = (comer-inside c.args.meetings.now c.requires.meetings c.args.time c.args.follower.now.agent c.loop-entry.entry c.requires.at.agent c.loop-entry.invariant.comes (subst (λ i. c.loop-entry.entry < get_or c.args.meetings.now.ends.now i 0) c.from-2.ensures c.loop-entry-test.true)).2 in
+    let few = (comer-inside c.args.meetings.now c.requires.meetings c.args.time c.args.follower.now.agent c.loop-entry.entry c.requires.at.agent c.loop-entry.invariant.comes
+    (subst (λ i. c.loop-entry.entry < get_or c.args.meetings.now.ends.now i 0) c.from-2.ensures c.loop-entry-test.true)).2 in
     omega (arith, few, begin)
 
 pub offset_bounds-meetings-entry-in-loop-entry-2 : goal.offset_bounds-meetings-entry-in-loop-entry-2
 offset_bounds-meetings-entry-in-loop-entry-2 c =
-    let in_all = comer-inside c.args.meetings.now c.requires.meetings c.args.time c.args.follower.now.agent c.loop-entry.entry c.requires.at.agent c.loop-entry.invariant.comes (subst (λ i. c.loop-entry.entry < get_or c.args.meetings.now.ends.now i 0) c.from-2.ensures c.loop-entry-test.true) in
+    let in_all = comer-inside c.args.meetings.now c.requires.meetings c.args.time c.args.follower.now.agent c.loop-entry.entry c.requires.at.agent c.loop-entry.invariant.comes
+    (subst (λ i. c.loop-entry.entry < get_or c.args.meetings.now.ends.now i 0) c.from-2.ensures c.loop-entry-test.true) in
     let inside = in_all.0 in
     let all = in_all.3 in
     omega (arith, inside, all)
 
 pub bounds-meetings-entry-in-loop-entry-2 : goal.bounds-meetings-entry-in-loop-entry-2
-bounds-meetings-entry-in-loop-entry-2 c = (comer-inside c.args.meetings.now c.requires.meetings c.args.time c.args.follower.now.agent c.loop-entry.entry c.requires.at.agent c.loop-entry.invariant.comes (subst (λ i. c.loop-entry.entry < get_or c.args.meetings.now.ends.now i 0) c.from-2.ensures c.loop-entry-test.true)).0
+bounds-meetings-entry-in-loop-entry-2 c = (comer-inside c.args.meetings.now c.requires.meetings c.args.time c.args.follower.now.agent c.loop-entry.entry c.requires.at.agent
+    c.loop-entry.invariant.comes (subst (λ i. c.loop-entry.entry < get_or c.args.meetings.now.ends.now i 0) c.from-2.ensures c.loop-entry-test.true)).0
 
 pub next_meeting-entry-requires-clause-within : goal.next_meeting-entry-requires-clause-within
 next_meeting-entry-requires-clause-within c = λ more.
@@ -104,7 +111,8 @@ returns-clause-at c =
     let m = c.args.meetings.now in
     let agent = c.args.follower.now.agent in
     let begin = c.begin_in-begin.ensures ∙ ap (begin_in m.ends.now) c.from.ensures in
-    let end : (c.loop-entry.entry < get_or c.args.meetings.now.ends.now c.args.follower.now.agent 0) → c.args.time + block_times ≤ get_or c.args.meetings.now.times.now c.loop-entry.entry 0 = λ more. (elim c.loop-entry-test.branch [
+    let end : (c.loop-entry.entry < get_or c.args.meetings.now.ends.now c.args.follower.now.agent 0) → c.args.time + block_times ≤ get_or c.args.meetings.now.times.now c.loop-entry.entry 0 = λ more.
+    (elim c.loop-entry-test.branch [
       | then-loop-entry-test+else-from-time w ↦ (let is = w.from-in-loop-entry.ensures in let past = w.if-from-time.false in omega (arith, is, past))
       | else-loop-entry-test w ↦ (
           let past = w.loop-entry-test.false in
@@ -119,7 +127,8 @@ pub returns-clause-added : goal.returns-clause-added
 returns-clause-added c =
     let m = c.args.meetings.now in
     let agent = c.args.follower.now.agent in
-    let end : (c.loop-entry.entry < get_or c.args.meetings.now.ends.now c.args.follower.now.agent 0) → c.args.time + block_times ≤ get_or c.args.meetings.now.times.now c.loop-entry.entry 0 = λ more. (elim c.loop-entry-test.branch [
+    let end : (c.loop-entry.entry < get_or c.args.meetings.now.ends.now c.args.follower.now.agent 0) → c.args.time + block_times ≤ get_or c.args.meetings.now.times.now c.loop-entry.entry 0 = λ more.
+    (elim c.loop-entry-test.branch [
       | then-loop-entry-test+else-from-time w ↦ (let is = w.from-in-loop-entry.ensures in let past = w.if-from-time.false in omega (arith, is, past))
       | else-loop-entry-test w ↦ (
           let past = w.loop-entry-test.false in

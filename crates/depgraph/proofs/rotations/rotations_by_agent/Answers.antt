@@ -47,24 +47,29 @@ overflow_cast-entry c =
     let tt = c.args.plan.now.timetable in
     let laid = c.requires.laid in
     let few = few_entries tt c.args.links.now.ends.now c.args.links.now.waits.now (links_in c.args.links.now) laid in
-    let here = (entry_here tt c.args.links.now.ends.now c.args.links.now.waits.now (links_in c.args.links.now) laid c.loop-agent.agent c.loop-entry.entry c.loop-agent-test.true c.loop-entry.invariant.from c.loop-entry-test.true).0 in
+    let here = (entry_here tt c.args.links.now.ends.now c.args.links.now.waits.now (links_in c.args.links.now) laid c.loop-agent.agent c.loop-entry.entry c.loop-agent-test.true
+    c.loop-entry.invariant.from c.loop-entry-test.true).0 in
     omega (arith, few, here)
 
 pub walk-requires-clause-links : goal.walk-requires-clause-links
 walk-requires-clause-links c =
-    links_now c.args.plan.now.timetable c.args.links.now.ends.now c.args.links.now.waits.now (links_in c.args.links.now) (links_in c.loop-entry.links) c.loop-entry.entry (turns_of c.loop-entry.rotations.items) c.loop-entry.invariant.turned
+    links_now c.args.plan.now.timetable c.args.links.now.ends.now c.args.links.now.waits.now (links_in c.args.links.now) (links_in c.loop-entry.links) c.loop-entry.entry
+    (turns_of c.loop-entry.rotations.items) c.loop-entry.invariant.turned
 
 pub walk-requires-clause-first : goal.walk-requires-clause-first
 walk-requires-clause-first c =
     let tt = c.args.plan.now.timetable in
-    let here = (entry_here tt c.args.links.now.ends.now c.args.links.now.waits.now (links_in c.args.links.now) c.requires.laid c.loop-agent.agent c.loop-entry.entry c.loop-agent-test.true c.loop-entry.invariant.from c.loop-entry-test.true).0 in
-    let long = now_count tt c.args.links.now.ends.now c.args.links.now.waits.now (links_in c.args.links.now) (links_in c.loop-entry.links) c.loop-entry.entry (turns_of c.loop-entry.rotations.items) c.loop-entry.invariant.turned in
+    let here = (entry_here tt c.args.links.now.ends.now c.args.links.now.waits.now (links_in c.args.links.now) c.requires.laid c.loop-agent.agent c.loop-entry.entry c.loop-agent-test.true
+    c.loop-entry.invariant.from c.loop-entry-test.true).0 in
+    let long = now_count tt c.args.links.now.ends.now c.args.links.now.waits.now (links_in c.args.links.now) (links_in c.loop-entry.links) c.loop-entry.entry (turns_of c.loop-entry.rotations.items)
+    c.loop-entry.invariant.turned in
     omega (arith, here, long)
 
 pub agents_on-requires : goal.agents_on-requires
 agents_on-requires c =
     subst (All (λ e. e < length c.args.links.now.waits.now)) (sym c.deref.ensures.value)
-    (known_here c.args.plan.now.timetable c.args.links.now.ends.now c.args.links.now.waits.now (links_in c.args.links.now) (links_in c.loop-entry.links) c.loop-entry.entry (turns_of c.loop-entry.rotations.items) c.loop-entry.invariant.turned
+    (known_here c.args.plan.now.timetable c.args.links.now.ends.now c.args.links.now.waits.now (links_in c.args.links.now) (links_in c.loop-entry.links) c.loop-entry.entry
+    (turns_of c.loop-entry.rotations.items) c.loop-entry.invariant.turned
     (links_in c.walk.new.links) c.walk.new.trail.items (IsTrue c.in_ok-walk.field-0) c.in_ok-walk.ensures.walked c.if-branch.true)
 
 pub offset_bounds-times-entry : goal.offset_bounds-times-entry
@@ -72,12 +77,14 @@ offset_bounds-times-entry c =
     let tt = c.args.plan.now.timetable in
     let laid = c.requires.laid in
     let few = few_entries tt c.args.links.now.ends.now c.args.links.now.waits.now (links_in c.args.links.now) laid in
-    let here = (entry_here tt c.args.links.now.ends.now c.args.links.now.waits.now (links_in c.args.links.now) laid c.loop-agent.agent c.loop-entry.entry c.loop-agent-test.true c.loop-entry.invariant.from c.loop-entry-test.true).0 in
+    let here = (entry_here tt c.args.links.now.ends.now c.args.links.now.waits.now (links_in c.args.links.now) laid c.loop-agent.agent c.loop-entry.entry c.loop-agent-test.true
+    c.loop-entry.invariant.from c.loop-entry-test.true).0 in
     omega (arith, few, here)
 
 pub bounds-times-entry : goal.bounds-times-entry
 bounds-times-entry c =
-    let here = (entry_here c.args.plan.now.timetable c.args.links.now.ends.now c.args.links.now.waits.now (links_in c.args.links.now) c.requires.laid c.loop-agent.agent c.loop-entry.entry c.loop-agent-test.true
+    let here = (entry_here c.args.plan.now.timetable c.args.links.now.ends.now c.args.links.now.waits.now (links_in c.args.links.now) c.requires.laid c.loop-agent.agent c.loop-entry.entry
+    c.loop-agent-test.true
     c.loop-entry.invariant.from c.loop-entry-test.true).0 in
     let long = ap length c.requires.times in
     omega (arith, here, long)
@@ -86,7 +93,8 @@ pub overflow_sub-step : goal.overflow_sub-step
 overflow_sub-step c =
     let from = c.from-step.ensures in
     let begun = subst (λ l. 1 ≤ get_or l c.loop-entry.entry 0) (sym c.requires.times)
-    (begun_here c.args.plan.now.timetable c.args.links.now.ends.now c.args.links.now.waits.now (links_in c.args.links.now) (links_in c.loop-entry.links) c.loop-entry.entry (turns_of c.loop-entry.rotations.items) c.loop-entry.invariant.turned
+    (begun_here c.args.plan.now.timetable c.args.links.now.ends.now c.args.links.now.waits.now (links_in c.args.links.now) (links_in c.loop-entry.links) c.loop-entry.entry
+    (turns_of c.loop-entry.rotations.items) c.loop-entry.invariant.turned
     (links_in c.walk.new.links) c.walk.new.trail.items (IsTrue c.in_ok-walk.field-0) c.in_ok-walk.ensures.walked c.if-branch.true) in
     omega (arith, from, begun)
 
@@ -113,14 +121,17 @@ loop-entry-preserved c =
         | then-branch+in_ok-agents+in_ok-push w ↦ (
             let agents = w.in_ok-agents.agents in
             let are_agents = w.in_ok-agents.ensures ∙ ap (agents_of waits agent) w.deref.ensures.value in
-            let more = turned-one tt ends waits ahead (links_in c.loop-entry.links) entry (turns_of rotations) was.turned (links_in c.walk.new.links) trail (IsTrue c.in_ok-walk.field-0) c.in_ok-walk.ensures.walked
+            let more = turned-one tt ends waits ahead (links_in c.loop-entry.links) entry (turns_of rotations) was.turned (links_in c.walk.new.links) trail (IsTrue c.in_ok-walk.field-0)
+            c.in_ok-walk.ensures.walked
             w.if-branch.true agent step agents.items c.loop-agent-test.true from less (ap (λ l. get_or l entry 0 - 1) c.requires.times) are_agents in
             subst (AreTurned tt ends waits ahead (links_in c.walk.new.links) (entry + 1)) (sym (ap (λ v. turns_of v.items) w.rotations-is
-            ∙ turns-push rotations w.push.new.self.items (record { step = w.from-step.result - 1; agents = agents }) (record { step = step; agents = agents.items }) w.in_ok-push.ensures.items (ap (λ n. n - 1) w.from-step.ensures) refl)) more
+            ∙ turns-push rotations w.push.new.self.items (record { step = w.from-step.result - 1; agents = agents }) (record { step = step; agents = agents.items }) w.in_ok-push.ensures.items
+            (ap (λ n. n - 1) w.from-step.ensures) refl)) more
             )
         | else-branch w ↦
             subst (λ v. AreTurned tt ends waits ahead (links_in c.walk.new.links) (entry + 1) (turns_of v.items)) (sym w.rotations-is)
-            (turned-none tt ends waits ahead (links_in c.loop-entry.links) entry (turns_of rotations) was.turned (links_in c.walk.new.links) trail (IsTrue c.in_ok-walk.field-0) c.in_ok-walk.ensures.walked
+            (turned-none tt ends waits ahead (links_in c.loop-entry.links) entry (turns_of rotations) was.turned (links_in c.walk.new.links) trail (IsTrue c.in_ok-walk.field-0)
+            c.in_ok-walk.ensures.walked
             (λ is. false≢true (sym w.if-branch.false ∙ is)))
       ];
     }

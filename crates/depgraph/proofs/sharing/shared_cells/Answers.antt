@@ -25,24 +25,28 @@ still n agent m i old new seen was alone = seen.kept m i alone (was (seen.shared
 
 pub offset_bounds-numbers-entry : goal.offset_bounds-numbers-entry
 offset_bounds-numbers-entry c =
-    let here = at_hand c.args.times.now c.args.ends.now c.args.numbers.now c.args.limit c.loop-agent.agent c.loop-entry.entry c.requires c.loop-agent-test.true c.loop-entry.invariant.after c.loop-entry-test.true in
+    let here = at_hand c.args.times.now c.args.ends.now c.args.numbers.now c.args.limit c.loop-agent.agent c.loop-entry.entry c.requires c.loop-agent-test.true c.loop-entry.invariant.after
+    c.loop-entry-test.true in
     let less = here.0 in
     let all = here.2 in
     omega (arith, less, all)
 
 pub bounds-numbers-entry : goal.bounds-numbers-entry
 bounds-numbers-entry c =
-    (at_hand c.args.times.now c.args.ends.now c.args.numbers.now c.args.limit c.loop-agent.agent c.loop-entry.entry c.requires c.loop-agent-test.true c.loop-entry.invariant.after c.loop-entry-test.true).0
+    (at_hand c.args.times.now c.args.ends.now c.args.numbers.now c.args.limit c.loop-agent.agent c.loop-entry.entry c.requires c.loop-agent-test.true c.loop-entry.invariant.after
+    c.loop-entry-test.true).0
 
 pub see-requires-clause-owner : goal.see-requires-clause-owner
 see-requires-clause-owner c =
-    let known = (at_hand c.args.times.now c.args.ends.now c.args.numbers.now c.args.limit c.loop-agent.agent c.loop-entry.entry c.requires c.loop-agent-test.true c.loop-entry.invariant.after c.loop-entry-test.true).1 in
+    let known = (at_hand c.args.times.now c.args.ends.now c.args.numbers.now c.args.limit c.loop-agent.agent c.loop-entry.entry c.requires c.loop-agent-test.true c.loop-entry.invariant.after
+    c.loop-entry-test.true).1 in
     let count = c.loop-entry.invariant.owner_count in
     omega (arith, known, count)
 
 pub see-requires-clause-shared : goal.see-requires-clause-shared
 see-requires-clause-shared c =
-    let known = (at_hand c.args.times.now c.args.ends.now c.args.numbers.now c.args.limit c.loop-agent.agent c.loop-entry.entry c.requires c.loop-agent-test.true c.loop-entry.invariant.after c.loop-entry-test.true).1 in
+    let known = (at_hand c.args.times.now c.args.ends.now c.args.numbers.now c.args.limit c.loop-agent.agent c.loop-entry.entry c.requires c.loop-agent-test.true c.loop-entry.invariant.after
+    c.loop-entry-test.true).1 in
     let count = c.loop-entry.invariant.shared_count in
     omega (arith, known, count)
 

@@ -11,7 +11,8 @@ pub returns-in_err-put-clause-err : goal.returns-in_err-put-clause-err
 returns-in_err-put-clause-err g c =
     let p = err_from_is_err_and c.from_residual.result c.from_residual.ensures.1 in
     let words = c.args.words in
-    rw p.1 (Leaves-broken g.W.Write.contents _ _ _ _ c.args.head.now (from_name words c.args.end.now) _ (first-left g.W.Write.contents c.args.head.now words c.args.end.now _) refl c.in_err-put.ensures.err)
+    rw p.1 (Leaves-broken g.W.Write.contents _ _ _ _ c.args.head.now (from_name words c.args.end.now) _ (first-left g.W.Write.contents c.args.head.now words c.args.end.now _) refl
+    c.in_err-put.ensures.err)
 
 pub returns-in_err-put-2-clause-err : goal.returns-in_err-put-2-clause-err
 returns-in_err-put-2-clause-err g c =

@@ -14,7 +14,8 @@ use Rattle.fleet.proofs.LeadingOn.{heard-same}
 use Rattle.fleet.proofs.laws.tapes_stay_within.Goals as goal
 
 -- at most one record more
-one-more : (o : Option Refusal) (old new : State) (c : Cell) (answer : Result Cell Refusal) (most : ℕ) → old.records ≤ most → (o ≡ None → old.records + 1 ≤ most) → Answers o old new c answer → new.records ≤ most
+one-more : (o : Option Refusal) (old new : State) (c : Cell) (answer : Result Cell Refusal) (most : ℕ) → old.records ≤ most → (o ≡ None → old.records + 1 ≤ most) → Answers o old new c answer →
+    new.records ≤ most
 one-more (Some why) old new c answer most within room refuses = (let same = ap (λ s. s.records) refuses.1 in omega (arith, same, within))
 one-more None old new c answer most within room stores =
     let free = room refl in

@@ -12,7 +12,11 @@ returns-then-new-number g c = (sym c.lacks_agent.ensures ∙ c.if-lacks_agent.fa
 pub returns-in_err-found : goal.returns-in_err-found
 returns-in_err-found g c =
     let p = err_from_is_err_and c.from_residual.result c.from_residual.ensures.1 in
-    let may : MayBeAnew c.args.at_hand.now c.args.new.without c.args.new.number = (sym c.lacks_agent.ensures ∙ c.if-lacks_agent.false, λ same. c.if-new-number.false (same ∙ sym c.number.ensures.number)) in
+    let may : MayBeAnew c.args.at_hand.now c.args.new.without c.args.new.number = (
+      sym c.lacks_agent.ensures ∙ c.if-lacks_agent.false,
+      λ same. c.if-new-number.false
+          (same ∙ sym c.number.ensures.number),
+    ) in
     let Anew = IsBegunAnew g.R.File.Read.remaining c.args.new.without c.args.new.number c.args.at_hand.now in
     subst Anew (sym (p.1 ∙ ap Err p.2)) (unknown-as g.R.File.Read.remaining c.args.new.without c.args.new.number c.args.at_hand.now may _ c.in_err-found.ensures.fault)
 
@@ -25,6 +29,10 @@ pub returns : goal.returns
 returns g c =
     let it = c.args.at_hand.now in
     let found = c.in_ok-found.found.items in
-    let may : MayBeAnew c.args.at_hand.now c.args.new.without c.args.new.number = (sym c.lacks_agent.ensures ∙ c.if-lacks_agent.false, λ same. c.if-new-number.false (same ∙ sym c.number.ensures.number)) in
+    let may : MayBeAnew c.args.at_hand.now c.args.new.without c.args.new.number = (
+      sym c.lacks_agent.ensures ∙ c.if-lacks_agent.false,
+      λ same. c.if-new-number.false
+          (same ∙ sym c.number.ensures.number),
+    ) in
     left-as g.R.File.Read.remaining c.args.new.without c.args.new.number it may found c.in_ok-left.left c.in_ok-found.ensures.known
     (c.in_ok-left.ensures.left ∙ ap (λ l. left_plan it.plan it.dependencies l c.args.new.without c.args.new.number) c.deref.ensures.value) c.checked.result c.checked.ensures

@@ -14,4 +14,6 @@ returns-clause-found g c =
     let tt = c.args.dependencies.now in
     let part = subst (λ o. MatchOption o (track_of tt c.args.agent ≡ None) (λ (p : AgentPart). IsPartOf tt p × (p.agent ≡ c.args.agent))) c.unwrap-part.ensures c.part.ensures in
     IfOk-weaker c.unless_refused.result _ _ (λ it same. subst (IsFoundIn g.R.File.Read.remaining tt c.args.agent) (sym same)
-    (found-in g.R.File.Read.remaining tt c.args.agent _ _ c.read_records.result (subst (λ i. MatchResult c.read_records.result (HasRecords g.R.File.Read.remaining tt i c.new-file.result c.read_records.new.file) (IsNotShown g.R.File.Read.remaining tt i c.new-file.result c.read_records.new.file)) part.1 (c.read_records.ensures.has tt part.0)))) c.unless_refused.ensures
+    (found-in g.R.File.Read.remaining tt c.args.agent _ _ c.read_records.result (subst (λ i. MatchResult c.read_records.result
+    (HasRecords g.R.File.Read.remaining tt i c.new-file.result c.read_records.new.file) (IsNotShown g.R.File.Read.remaining tt i c.new-file.result c.read_records.new.file)) part.1
+    (c.read_records.ensures.has tt part.0)))) c.unless_refused.ensures

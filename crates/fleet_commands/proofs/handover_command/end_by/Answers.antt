@@ -14,4 +14,5 @@ pub returns-in-Ok : goal.returns-in-Ok
 returns-in-Ok g c =
     let Finished : End → Type 0 = λ success. FinishesWriting g.W.Write.contents (is_ok c.write_plan-written.result) success c.write_plan-written.new.writer c.finish.new.out (end_of c.finish.result) in
     let Told : Result Plan HandoverFault → Type 0 = λ answer. EndsByPlan g.W.Write.contents c.args.out.now c.finish.new.out (end_of c.finish.result) answer in
-    subst Told (sym c.in-Ok.is) (ends_writing g.W.Write.contents c.args.out.now c.write_plan-written.new.writer c.finish.new.out (canonical_plan_text c.in-Ok.plan) (is_ok c.write_plan-written.result) _ _ c.write_plan-written.ensures (subst Finished c.answered_with.ensures c.finish.ensures))
+    subst Told (sym c.in-Ok.is) (ends_writing g.W.Write.contents c.args.out.now c.write_plan-written.new.writer c.finish.new.out (canonical_plan_text c.in-Ok.plan) (is_ok c.write_plan-written.result)
+    _ _ c.write_plan-written.ensures (subst Finished c.answered_with.ensures c.finish.ensures))

@@ -10,7 +10,8 @@ loop-agent-preserved c =
     let n = c.loop-agent.agent in
     let own : ℕ → ℕ = λ i. keeper_after c.args.waits.now i (length c.args.waits.now) in
     record {
-      ends = c.in_ok-push.ensures.items ∙ ap (λ l. l ++ c.keeper_of.result ∷ []) c.loop-agent.invariant.ends ∙ ap (λ x. map own (range_with_len 0 n) ++ x ∷ []) c.keeper_of.ensures ∙ sym (map-range_with_len_more own 0 n n (omega arith));
+      ends = c.in_ok-push.ensures.items ∙ ap (λ l. l ++ c.keeper_of.result ∷ []) c.loop-agent.invariant.ends ∙ ap (λ x. map own (range_with_len 0 n) ++ x ∷ []) c.keeper_of.ensures ∙ sym
+          (map-range_with_len_more own 0 n n (omega arith));
     }
 
 pub returns-clause-few : goal.returns-clause-few

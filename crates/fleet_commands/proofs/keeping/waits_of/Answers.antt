@@ -12,7 +12,8 @@ loop-agent-preserved c =
     let own : ℕ → Option ℕ = λ i. waited_for (kept_now c.args.dependencies.now c.args.found.now i) in
     let one = c.waited_for.ensures ∙ ap waited_for c.kept_now.ensures in
     record {
-      waits = c.in_ok-push.ensures.items ∙ ap (λ l. l ++ c.waited_for.result ∷ []) c.loop-agent.invariant.waits ∙ ap (λ x. map own (range_with_len 0 n) ++ x ∷ []) one ∙ sym (map-range_with_len_more own 0 n n (omega arith));
+      waits = c.in_ok-push.ensures.items ∙ ap (λ l. l ++ c.waited_for.result ∷ []) c.loop-agent.invariant.waits ∙ ap (λ x. map own (range_with_len 0 n) ++ x ∷ []) one ∙ sym
+          (map-range_with_len_more own 0 n n (omega arith));
     }
 
 pub returns-clause-few : goal.returns-clause-few

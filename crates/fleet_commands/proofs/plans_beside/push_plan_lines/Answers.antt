@@ -14,5 +14,9 @@ loop-agent-preserved g c =
     let found = subst (IsFoundBeside g.R.File.Read.remaining) (sym c.in_ok-found.ensures) c.plan_beside.ensures in
     let same : suc i ≡ i + 1 = omega arith in
     record {
-      compared = (next.0, subst (λ n. AreCompared g.R.File.Read.remaining n c.in_ok-foremost.foremost next.0) same (c.loop-agent.foremost, before.0, before.1, (c.in_ok-found.found, found, next.1)), next.2);
+      compared = (
+        next.0,
+        subst (λ n. AreCompared g.R.File.Read.remaining n c.in_ok-foremost.foremost next.0) same (c.loop-agent.foremost, before.0, before.1, (c.in_ok-found.found, found, next.1)),
+        next.2,
+      );
     }

@@ -11,7 +11,9 @@ returns-in_err-put_progress-clause-err g c =
     rw p.1 (Breaks-text g.W.Write.contents _ _ (progress_text c.args.json c.args.line.now) (keeping_text c.args.json c.args.line.now.keeping) _ refl c.in_err-put_progress.ensures.err)
 
 pub returns-clause-ok : goal.returns-clause-ok
-returns-clause-ok g c = Puts-then g.W.Write.contents _ _ _ (progress_text c.args.json c.args.line.now) (keeping_text c.args.json c.args.line.now.keeping) _ c.put_keeping.result refl c.in_ok-put_progress.ensures.ok c.put_keeping.ensures.ok
+returns-clause-ok g c = Puts-then g.W.Write.contents _ _ _ (progress_text c.args.json c.args.line.now) (keeping_text c.args.json c.args.line.now.keeping) _ c.put_keeping.result refl
+    c.in_ok-put_progress.ensures.ok c.put_keeping.ensures.ok
 
 pub returns-clause-err : goal.returns-clause-err
-returns-clause-err g c = Breaks-then g.W.Write.contents _ _ _ (progress_text c.args.json c.args.line.now) (keeping_text c.args.json c.args.line.now.keeping) _ c.put_keeping.result refl c.in_ok-put_progress.ensures.ok c.put_keeping.ensures.err
+returns-clause-err g c = Breaks-then g.W.Write.contents _ _ _ (progress_text c.args.json c.args.line.now) (keeping_text c.args.json c.args.line.now.keeping) _ c.put_keeping.result refl
+    c.in_ok-put_progress.ensures.ok c.put_keeping.ensures.err

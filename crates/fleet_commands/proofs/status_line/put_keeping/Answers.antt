@@ -25,12 +25,14 @@ pub returns-in-Other-clause-ok : goal.returns-in-Other-clause-ok
 returns-in-Other-clause-ok g c =
     let agent = made c.new-agent.result _ _ _ c.in-Other.agent c.new-agent.ensures c.said-head.ensures c.from.ensures in
     let until = made c.new.result _ _ _ c.in-Other.count c.new.ensures c.said-until.ensures c.from-in-Other.ensures in
-    let is = ap₂ (λ (pieces end : List ℕ). pieces ++ end) (two-pieces c.new-agent.result c.new.result _ _ _ _ agent until) c.said-in-Other.ensures ∙ ap (keeping_text c.args.json) (sym c.in-Other.is) in
+    let is = ap₂ (λ (pieces end : List ℕ). pieces ++ end) (two-pieces c.new-agent.result c.new.result _ _ _ _ agent until) c.said-in-Other.ensures ∙ ap (keeping_text c.args.json) (sym c.in-Other.is)
+    in
     puts_as g.W.Write.contents _ _ c.put_ended.result _ _ is c.put_ended.ensures.ok
 
 pub returns-in-Other-clause-err : goal.returns-in-Other-clause-err
 returns-in-Other-clause-err g c =
     let agent = made c.new-agent.result _ _ _ c.in-Other.agent c.new-agent.ensures c.said-head.ensures c.from.ensures in
     let until = made c.new.result _ _ _ c.in-Other.count c.new.ensures c.said-until.ensures c.from-in-Other.ensures in
-    let is = ap₂ (λ (pieces end : List ℕ). pieces ++ end) (two-pieces c.new-agent.result c.new.result _ _ _ _ agent until) c.said-in-Other.ensures ∙ ap (keeping_text c.args.json) (sym c.in-Other.is) in
+    let is = ap₂ (λ (pieces end : List ℕ). pieces ++ end) (two-pieces c.new-agent.result c.new.result _ _ _ _ agent until) c.said-in-Other.ensures ∙ ap (keeping_text c.args.json) (sym c.in-Other.is)
+    in
     breaks_as g.W.Write.contents _ _ c.put_ended.result _ _ is c.put_ended.ensures.err

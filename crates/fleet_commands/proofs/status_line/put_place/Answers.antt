@@ -12,7 +12,9 @@ returns-in_err-put_agent-clause-err g c =
     rw p.1 (Breaks-text g.W.Write.contents _ _ (agent_text c.args.json c.args.line.now.agent) (pieces_text (held_pieces c.args.json c.args.line.now.held)) _ refl c.in_err-put_agent.ensures.err)
 
 pub returns-clause-ok : goal.returns-clause-ok
-returns-clause-ok g c = Puts-then g.W.Write.contents _ _ _ (agent_text c.args.json c.args.line.now.agent) (pieces_text (held_pieces c.args.json c.args.line.now.held)) _ c.put_held.result refl c.in_ok-put_agent.ensures.ok c.put_held.ensures.ok
+returns-clause-ok g c = Puts-then g.W.Write.contents _ _ _ (agent_text c.args.json c.args.line.now.agent) (pieces_text (held_pieces c.args.json c.args.line.now.held)) _ c.put_held.result refl
+    c.in_ok-put_agent.ensures.ok c.put_held.ensures.ok
 
 pub returns-clause-err : goal.returns-clause-err
-returns-clause-err g c = Breaks-then g.W.Write.contents _ _ _ (agent_text c.args.json c.args.line.now.agent) (pieces_text (held_pieces c.args.json c.args.line.now.held)) _ c.put_held.result refl c.in_ok-put_agent.ensures.ok c.put_held.ensures.err
+returns-clause-err g c = Breaks-then g.W.Write.contents _ _ _ (agent_text c.args.json c.args.line.now.agent) (pieces_text (held_pieces c.args.json c.args.line.now.held)) _ c.put_held.result refl
+    c.in_ok-put_agent.ensures.ok c.put_held.ensures.err

@@ -17,14 +17,16 @@ returns-in-Ok c =
     let i = c.args.agent in
     let there = c.requires.there in
     let all = c.requires.all in
-    let found : slice_get c.args.found.now i ≡ Some (Ok c.in-Ok.records) = slice_get-get_or c.args.found.now i (Ok 0) (omega (arith, there, all)) ∙ ap Some c.in-Ok.is in
+    let found : slice_get c.args.found.now i ≡ Some (Ok c.in-Ok.count) = slice_get-get_or c.args.found.now i (Ok 0) (omega (arith, there, all)) ∙ ap Some c.in-Ok.is in
     let part = subst (λ o. MatchOption o (track_of tt i ≡ None) (λ (p : AgentPart). IsPartOf tt p × (p.agent ≡ i))) c.unwrap-part.ensures c.part.ensures in
     let is = part.0 in
     let track : track_of tt i ≡ Some is.track = ap (track_of tt) (sym part.1) ∙ is.is_track in
+    let held = held_by_tape is.track (record { records = c.in-Ok.count; heard = []; broken = false }) in
     let line = agent_line_by tt c.args.found.now i in
-    ap (λ (h : Held). Agent (record { agent = i; held = h; done = c.in-Ok.records / 2; all = c.own_moves.result; keeping = c.kept_now.result })) (c.held_by.ensures tt is)
-    ∙ ap (λ all. Agent (record { agent = i; held = held_by_tape is.track (record { records = c.in-Ok.records; heard = []; broken = false }); done = c.in-Ok.records / 2; all = all; keeping = c.kept_now.result })) (c.own_moves.ensures.moves tt is)
-    ∙ ap (λ k. Agent (record { agent = i; held = held_by_tape is.track (record { records = c.in-Ok.records; heard = []; broken = false }); done = c.in-Ok.records / 2; all = moves is.track; keeping = k })) c.kept_now.ensures
+    ap (λ (h : Held). Agent (record { agent = i; held = h; done = c.done.result; all = c.own_moves.result; keeping = c.kept_now.result })) (c.held.ensures tt is)
+    ∙ ap (λ done. Agent (record { agent = i; held = held; done = done; all = c.own_moves.result; keeping = c.kept_now.result })) c.done.ensures
+    ∙ ap (λ all. Agent (record { agent = i; held = held; done = c.in-Ok.count / 2; all = all; keeping = c.kept_now.result })) (c.own_moves.ensures.moves tt is)
+    ∙ ap (λ k. Agent (record { agent = i; held = held; done = c.in-Ok.count / 2; all = moves is.track; keeping = k })) c.kept_now.ensures
     ∙ sym (ap (λ o. line o (slice_get c.args.found.now i)) track ∙ ap (line (Some is.track)) found)
 
 pub returns-in-Err : goal.returns-in-Err

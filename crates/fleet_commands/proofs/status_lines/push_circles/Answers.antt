@@ -15,7 +15,8 @@ loop-number-preserved c =
     let n = c.loop-number.number in
     let turn = turn_of c.index-rotations-number.result in
     let there : slice_get (turns_of c.args.rotations.now) n ≡ Some turn
-    = slice_get-map turn_of c.args.rotations.now n ∙ ap (option_map turn_of) (slice_get-get_or c.args.rotations.now n c.index-rotations-number.result c.loop-number-test.true ∙ ap Some (sym c.index-rotations-number.is)) in
+    = slice_get-map turn_of c.args.rotations.now n ∙ ap (option_map turn_of) (slice_get-get_or c.args.rotations.now n c.index-rotations-number.result c.loop-number-test.true ∙ ap Some
+    (sym c.index-rotations-number.is)) in
     let come = has_come c.args.dependencies.now c.args.found.now turn in
     let line = Circle n (stuck_count c.args.ends.now turn) in
     let as_line = ap (λ o. c.loop-number.lines.items ++ circle_line_by c.args.dependencies.now c.args.found.now c.args.ends.now n o) (sym there) in

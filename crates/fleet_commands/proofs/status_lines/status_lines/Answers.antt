@@ -13,7 +13,8 @@ loop-agent-preserved c =
     let n = c.loop-agent.agent in
     let own = agent_line c.args.dependencies.now c.args.found.now in
     record {
-      lines = c.in_ok-push.ensures.items ∙ ap (λ l. l ++ c.agent_line.result ∷ []) c.loop-agent.invariant.lines ∙ ap (λ x. map own (range_with_len 0 n) ++ x ∷ []) c.agent_line.ensures ∙ sym (map-range_with_len_more own 0 n n (omega arith));
+      lines = c.in_ok-push.ensures.items ∙ ap (λ l. l ++ c.agent_line.result ∷ []) c.loop-agent.invariant.lines ∙ ap (λ x. map own (range_with_len 0 n) ++ x ∷ []) c.agent_line.ensures ∙ sym
+          (map-range_with_len_more own 0 n n (omega arith));
     }
 
 pub returns : goal.returns
@@ -26,5 +27,6 @@ returns c =
     let roots = rw (c.deref-2.ensures.value, c.deref-3.ensures.value) at c.in_ok-push_roots.ensures in
     let circles = rw c.deref-4.ensures.value at c.in_ok-push_circles.ensures in
     let ends = rw c.deref.ensures.value at c.in_ok-ends.ensures.ends in
-    all-lines tt turns c.args.found.now c.in_ok-waits.waits.items c.in_ok-ends.ends.items c.loop-agent.agent (length c.args.rotations.now) c.loop-agent.lines.items c.push_roots.new.lines.items c.push_circles.new.lines.items
+    all-lines tt turns c.args.found.now c.in_ok-waits.waits.items c.in_ok-ends.ends.items c.loop-agent.agent (length c.args.rotations.now) c.loop-agent.lines.items c.push_roots.new.lines.items
+    c.push_circles.new.lines.items
     c.in_ok-waits.ensures.waits ends (omega (arith, over, end, all)) (sym (length-map c.args.rotations.now _)) c.loop-agent.invariant.lines roots circles

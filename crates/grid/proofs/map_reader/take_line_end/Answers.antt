@@ -24,7 +24,12 @@ returns-in-Err-End-next_byte g c =
     let first = Takes-byte g.R.Read.remaining _ _ _ carriage_return c.in-Ok-eq13.field-0-test c.in-Ok-eq13.ensures.0 in (
       carriage_return ∷ [],
       inr refl,
-      inr (Takes-trans g.R.Read.remaining _ _ _ _ [] first c.in-Err-End-next_byte.ensures.0, omega arith, IsAtEnd-from g.R.Read.remaining _ _ _ c.in-Err-End-next_byte.field-0-is c.in-Err-End-next_byte.ensures),
+      inr (
+        Takes-trans g.R.Read.remaining _ _ _ _ [] first c.in-Err-End-next_byte.ensures.0,
+        omega arith,
+        IsAtEnd-from g.R.Read.remaining _ _ _ c.in-Err-End-next_byte.field-0-is
+            c.in-Err-End-next_byte.ensures,
+      ),
     )
 
 pub returns-in-Err-Failure-next_byte : goal.returns-in-Err-Failure-next_byte

@@ -7,12 +7,14 @@ use Rattle.mapf_cmd.proofs.on_files.check_on_files.Goals as goal
 
 pub returns-in-None : goal.returns-in-None
 returns-in-None g c =
-    let Ends : Option (String Global) → Type 0 = λ scen. CheckOn g.R.File.Read.remaining g.W.Write.contents scen (terms_of c.args.line.now) c.args.out.now c.perform.new.out (end_of c.perform.result) in
+    let Ends : Option (String Global) → Type 0 = λ scen. CheckOn g.R.File.Read.remaining g.W.Write.contents scen (terms_of c.args.line.now) c.args.out.now c.perform.new.out (end_of c.perform.result)
+    in
     subst Ends (sym c.in-None.is) (c.new-map.result, c.perform.new.map, c.new-plan.result, c.perform.new.plan, c.perform.ensures)
 
 pub returns : goal.returns
 returns g c =
-    let Ends : Option (String Global) → Type 0 = λ scen. CheckOn g.R.File.Read.remaining g.W.Write.contents scen (terms_of c.args.line.now) c.args.out.now c.perform_fit.new.out (end_of c.perform_fit.result) in
+    let Ends : Option (String Global) → Type 0 = λ scen. CheckOn g.R.File.Read.remaining g.W.Write.contents scen (terms_of c.args.line.now) c.args.out.now c.perform_fit.new.out
+    (end_of c.perform_fit.result) in
     subst Ends (sym c.in-Some.is) (
       c.new-map.result,
       c.perform_fit.new.map,

@@ -7,15 +7,18 @@ use Rattle.mapf_cmd.proofs.on_files.fleet_on_files.Goals as goal
 
 pub returns-in-Status : goal.returns-in-Status
 returns-in-Status g c =
-    let Answers : FleetQuery → Type 0 = λ query. OnTwoFiles (λ p q r s. AnswersFleet g.R.File.Read.remaining g.R.File.Read.remaining g.R.File.Read.remaining g.W.Write.contents query p q r s c.args.out.now c.perform-ending.new.out (end_of c.perform-ending.result)) in
+    let Answers : FleetQuery → Type 0 = λ query. OnTwoFiles (λ p q r s. AnswersFleet g.R.File.Read.remaining g.R.File.Read.remaining g.R.File.Read.remaining g.W.Write.contents query p q r s
+    c.args.out.now c.perform-ending.new.out (end_of c.perform-ending.result)) in
     subst Answers (sym c.in-Status.is) (c.new-map.result, c.perform-ending.new.map, c.new-plan.result, c.perform-ending.new.plan, c.perform-ending.ensures)
 
 pub returns-in-Handover : goal.returns-in-Handover
 returns-in-Handover g c =
-    let Answers : FleetQuery → Type 0 = λ query. OnTwoFiles (λ p q r s. AnswersFleet g.R.File.Read.remaining g.R.File.Read.remaining g.R.File.Read.remaining g.W.Write.contents query p q r s c.args.out.now c.perform-ending-in-Handover.new.out (end_of c.perform-ending-in-Handover.result)) in
+    let Answers : FleetQuery → Type 0 = λ query. OnTwoFiles (λ p q r s. AnswersFleet g.R.File.Read.remaining g.R.File.Read.remaining g.R.File.Read.remaining g.W.Write.contents query p q r s
+    c.args.out.now c.perform-ending-in-Handover.new.out (end_of c.perform-ending-in-Handover.result)) in
     subst Answers (sym c.in-Handover.is) (c.new-map.result, c.perform-ending-in-Handover.new.map, c.new-plan.result, c.perform-ending-in-Handover.new.plan, c.perform-ending-in-Handover.ensures)
 
 pub returns : goal.returns
 returns g c =
-    let Answers : FleetQuery → Type 0 = λ query. OnTwoFiles (λ p q r s. AnswersFleet g.R.File.Read.remaining g.R.File.Read.remaining g.R.File.Read.remaining g.W.Write.contents query p q r s c.args.out.now c.perform-ending-in-Anew.new.out (end_of c.perform-ending-in-Anew.result)) in
+    let Answers : FleetQuery → Type 0 = λ query. OnTwoFiles (λ p q r s. AnswersFleet g.R.File.Read.remaining g.R.File.Read.remaining g.R.File.Read.remaining g.W.Write.contents query p q r s
+    c.args.out.now c.perform-ending-in-Anew.new.out (end_of c.perform-ending-in-Anew.result)) in
     subst Answers (sym c.in-Anew.is) (c.new-map.result, c.perform-ending-in-Anew.new.map, c.new-plan.result, c.perform-ending-in-Anew.new.plan, c.perform-ending-in-Anew.ensures)

@@ -9,7 +9,8 @@ use Rattle.mapf_cmd.proofs.unperformed.refuse.Goals as goal
 pub returns-in-Help : goal.returns-in-Help
 returns-in-Help g c =
     let Ends : LineFault → Type 0 = λ fault. EndsRefused g.W.Write.contents g.E.Write.contents fault c.args.out.now c.show.new.out c.args.err.now c.show.new.err c.show.result in
-    let Shown : List ℕ → Type 0 = λ bytes. EndsAndTells (λ end. EndsWriting g.W.Write.contents c.args.out.now c.show.new.out (answered_with Done) end bytes) g.E.Write.contents c.args.err.now c.show.new.err c.show.result in
+    let Shown : List ℕ → Type 0 = λ bytes. EndsAndTells (λ end. EndsWriting g.W.Write.contents c.args.out.now c.show.new.out (answered_with Done) end bytes) g.E.Write.contents c.args.err.now
+    c.show.new.err c.show.result in
     subst Ends (sym c.in-Help.is) (subst Shown c.as_bytes.ensures.value c.show.ensures)
 
 pub returns-in-OutOfMemory : goal.returns-in-OutOfMemory

@@ -13,7 +13,8 @@ returns-in-Ok g c =
     record {
       answer = Ok c.in-Ok.kept;
       reads = c.in-Ok.ensures;
-      ends = ends_writing g.W.Write.contents c.args.out.now c.write_plan-written.new.writer c.finish.new.out (canonical_plan_text c.in-Ok.kept) (is_ok c.write_plan-written.result) _ _ c.write_plan-written.ensures (subst Finished c.answered_with.ensures c.finish.ensures);
+      ends = ends_writing g.W.Write.contents c.args.out.now c.write_plan-written.new.writer c.finish.new.out (canonical_plan_text c.in-Ok.kept) (is_ok c.write_plan-written.result) _ _
+          c.write_plan-written.ensures (subst Finished c.answered_with.ensures c.finish.ensures);
     }
 
 pub returns-in-Err : goal.returns-in-Err

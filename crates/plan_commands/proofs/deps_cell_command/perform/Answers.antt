@@ -10,14 +10,16 @@ use Rattle.plan_commands.proofs.deps_cell_command.perform.Goals as goal
 pub returns-in-Ok : goal.returns-in-Ok
 returns-in-Ok g c =
     let visits = c.visits_to.result.now in
-    let Finished : End → Type 0 = λ success. FinishesWriting g.W.Write.contents (is_ok c.write_visits-written.result) success c.write_visits-written.new.writer c.finish.new.out (end_of c.finish.result) in
+    let Finished : End → Type 0 = λ success. FinishesWriting g.W.Write.contents (is_ok c.write_visits-written.result) success c.write_visits-written.new.writer c.finish.new.out
+    (end_of c.finish.result) in
     record {
       answer = Ok c.in-Ok.graph;
       reads = c.in-Ok.ensures;
       ends = (
         visits,
         c.visits_to.ensures,
-        ends_writing g.W.Write.contents c.args.out.now c.write_visits-written.new.writer c.finish.new.out (visits_text visits) (is_ok c.write_visits-written.result) _ _ c.write_visits-written.ensures (subst Finished c.answered_with.ensures c.finish.ensures),
+        ends_writing g.W.Write.contents c.args.out.now c.write_visits-written.new.writer c.finish.new.out (visits_text visits) (is_ok c.write_visits-written.result) _ _ c.write_visits-written.ensures
+            (subst Finished c.answered_with.ensures c.finish.ensures),
       );
     }
 

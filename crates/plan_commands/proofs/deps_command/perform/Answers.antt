@@ -17,7 +17,8 @@ returns-in-Ok g c =
       ends = (
         w.0,
         w.1,
-        ends_writing g.W.Write.contents c.args.out.now c.write_deps-written.new.writer c.finish.new.out (deps_text c.in-Ok.dependencies w.0) (is_ok c.write_deps-written.result) _ _ w.2 (subst Finished c.answered_with.ensures c.finish.ensures),
+        ends_writing g.W.Write.contents c.args.out.now c.write_deps-written.new.writer c.finish.new.out (deps_text c.in-Ok.dependencies w.0) (is_ok c.write_deps-written.result) _ _ w.2
+            (subst Finished c.answered_with.ensures c.finish.ensures),
       );
     }
 

@@ -15,7 +15,8 @@ returns-in_err-put_counts-clause-err g c =
     let p = err_from_is_err_and c.from_residual.result c.from_residual.ensures.1 in
     let tt = c.args.graph.now in
     let turns = turns_of c.args.rotations.now in
-    let same = counts-same c.agents.result c.count.result.moves c.count.result.needs (length c.args.rotations.now) (length tt.tracks) (sum_by moves tt.tracks) (length (all_need_lines tt 0 tt.tracks)) (length turns)
+    let same = counts-same c.agents.result c.count.result.moves c.count.result.needs (length c.args.rotations.now) (length tt.tracks) (sum_by moves tt.tracks) (length (all_need_lines tt 0 tt.tracks))
+    (length turns)
     c.agents.ensures.agents c.count.ensures.moves c.count.ensures.needs (sym (length-map c.args.rotations.now _)) in
     let all = Leaves-all g.W.Write.contents _ _ _ (deps-parts tt turns) in
     rw p.1 (Leaves-broken g.W.Write.contents _ _ _ _ (first_part tt turns) (needs_part tt ++ (rotations_part turns ++ [])) _ all same c.in_err-put_counts.ensures.err)
@@ -25,7 +26,8 @@ returns-in_err-put_all_needs-clause-err g c =
     let p = err_from_is_err_and c.from_residual-in_err-put_all_needs.result c.from_residual-in_err-put_all_needs.ensures.1 in
     let tt = c.args.graph.now in
     let turns = turns_of c.args.rotations.now in
-    let same = counts-same c.agents.result c.count.result.moves c.count.result.needs (length c.args.rotations.now) (length tt.tracks) (sum_by moves tt.tracks) (length (all_need_lines tt 0 tt.tracks)) (length turns)
+    let same = counts-same c.agents.result c.count.result.moves c.count.result.needs (length c.args.rotations.now) (length tt.tracks) (sum_by moves tt.tracks) (length (all_need_lines tt 0 tt.tracks))
+    (length turns)
     c.agents.ensures.agents c.count.ensures.moves c.count.ensures.needs (sym (length-map c.args.rotations.now _)) in
     let all = Leaves-all g.W.Write.contents _ _ _ (deps-parts tt turns) in
     let counted = Leaves-less g.W.Write.contents _ _ _ _ (first_part tt turns) (needs_part tt ++ (rotations_part turns ++ [])) _ all same c.in_ok-put_counts.ensures.ok in
@@ -36,7 +38,8 @@ returns-in_err-put_rotations-clause-err g c =
     let p = err_from_is_err_and c.from_residual-in_err-put_rotations.result c.from_residual-in_err-put_rotations.ensures.1 in
     let tt = c.args.graph.now in
     let turns = turns_of c.args.rotations.now in
-    let same = counts-same c.agents.result c.count.result.moves c.count.result.needs (length c.args.rotations.now) (length tt.tracks) (sum_by moves tt.tracks) (length (all_need_lines tt 0 tt.tracks)) (length turns)
+    let same = counts-same c.agents.result c.count.result.moves c.count.result.needs (length c.args.rotations.now) (length tt.tracks) (sum_by moves tt.tracks) (length (all_need_lines tt 0 tt.tracks))
+    (length turns)
     c.agents.ensures.agents c.count.ensures.moves c.count.ensures.needs (sym (length-map c.args.rotations.now _)) in
     let all = Leaves-all g.W.Write.contents _ _ _ (deps-parts tt turns) in
     let counted = Leaves-less g.W.Write.contents _ _ _ _ (first_part tt turns) (needs_part tt ++ (rotations_part turns ++ [])) _ all same c.in_ok-put_counts.ensures.ok in
@@ -47,7 +50,8 @@ pub returns-clause-ok : goal.returns-clause-ok
 returns-clause-ok g c =
     let tt = c.args.graph.now in
     let turns = turns_of c.args.rotations.now in
-    let same = counts-same c.agents.result c.count.result.moves c.count.result.needs (length c.args.rotations.now) (length tt.tracks) (sum_by moves tt.tracks) (length (all_need_lines tt 0 tt.tracks)) (length turns)
+    let same = counts-same c.agents.result c.count.result.moves c.count.result.needs (length c.args.rotations.now) (length tt.tracks) (sum_by moves tt.tracks) (length (all_need_lines tt 0 tt.tracks))
+    (length turns)
     c.agents.ensures.agents c.count.ensures.moves c.count.ensures.needs (sym (length-map c.args.rotations.now _)) in
     let all = Leaves-all g.W.Write.contents _ _ _ (deps-parts tt turns) in
     let counted = Leaves-less g.W.Write.contents _ _ _ _ (first_part tt turns) (needs_part tt ++ (rotations_part turns ++ [])) _ all same c.in_ok-put_counts.ensures.ok in
@@ -59,7 +63,8 @@ pub returns-clause-err : goal.returns-clause-err
 returns-clause-err g c =
     let tt = c.args.graph.now in
     let turns = turns_of c.args.rotations.now in
-    let same = counts-same c.agents.result c.count.result.moves c.count.result.needs (length c.args.rotations.now) (length tt.tracks) (sum_by moves tt.tracks) (length (all_need_lines tt 0 tt.tracks)) (length turns)
+    let same = counts-same c.agents.result c.count.result.moves c.count.result.needs (length c.args.rotations.now) (length tt.tracks) (sum_by moves tt.tracks) (length (all_need_lines tt 0 tt.tracks))
+    (length turns)
     c.agents.ensures.agents c.count.ensures.moves c.count.ensures.needs (sym (length-map c.args.rotations.now _)) in
     let all = Leaves-all g.W.Write.contents _ _ _ (deps-parts tt turns) in
     let counted = Leaves-less g.W.Write.contents _ _ _ _ (first_part tt turns) (needs_part tt ++ (rotations_part turns ++ [])) _ all same c.in_ok-put_counts.ensures.ok in

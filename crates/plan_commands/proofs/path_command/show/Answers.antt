@@ -30,7 +30,8 @@ returns-in-Ok g c =
     record {
       answer = Ok (rows_of_courses courses);
       shows = (courses, c.in-Some.ensures, are_rows courses (asked_walked c.args.plan.now c.args.agent courses c.requires c.in-Some.ensures));
-      ends = ends_writing g.W.Write.contents c.args.out.now c.write_rows-written.new.writer c.finish.new.out text (is_ok c.write_rows-written.result) _ _ c.write_rows-written.ensures (subst Finished c.answered_with.ensures c.finish.ensures);
+      ends = ends_writing g.W.Write.contents c.args.out.now c.write_rows-written.new.writer c.finish.new.out text (is_ok c.write_rows-written.result) _ _ c.write_rows-written.ensures
+          (subst Finished c.answered_with.ensures c.finish.ensures);
     }
 
 pub returns-in-Err : goal.returns-in-Err

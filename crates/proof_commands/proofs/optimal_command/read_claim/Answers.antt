@@ -9,7 +9,8 @@ use Rattle.proof_commands.proofs.optimal_command.read_claim.Goals as goal
 
 pub returns-clause-reads : goal.returns-clause-reads
 returns-clause-reads g c =
-    let ReadsBy : List Ends → Type 0 = λ ends. Reads (ProofText c.args.on_map.now.map ends) (ProofFaultAt c.args.on_map.now.map ends) g.F.Read.remaining c.args.proof.now c.read_proof.new.reader (proof_outcome c.read_proof.result) in
+    let ReadsBy : List Ends → Type 0 = λ ends. Reads (ProofText c.args.on_map.now.map ends) (ProofFaultAt c.args.on_map.now.map ends) g.F.Read.remaining c.args.proof.now c.read_proof.new.reader
+    (proof_outcome c.read_proof.result) in
     subst ReadsBy c.in_ok-ends.ensures c.read_proof.ensures.reads
 
 pub returns-clause-holds : goal.returns-clause-holds

@@ -13,7 +13,8 @@ use Rattle.proof_commands.proofs.optimal_command.refuse.Goals as goal
 pub returns-in-NoSuchAgent : goal.returns-in-NoSuchAgent
 returns-in-NoSuchAgent g c =
     let Told : ProofFault → Type 0 = λ fault. EndsUnproved g.W.Write.contents c.args.json c.args.out.now c.tell.new.out (end_of c.tell.result) fault in
-    let Ends : End → ProofFault → Type 0 = λ success fault. EndsByLine g.W.Write.contents c.args.out.now c.tell.new.out success (end_of c.tell.result) (refused_line c.args.json (words_text (proof_fault_words fault))) in
+    let Ends : End → ProofFault → Type 0 = λ success fault. EndsByLine g.W.Write.contents c.args.out.now c.tell.new.out success (end_of c.tell.result)
+    (refused_line c.args.json (words_text (proof_fault_words fault))) in
     let Success : End → Type 0 = λ success. Ends success c.args.fault in
     let Named : ProofFault → Type 0 = λ fault. Ends (rejected (proof_fault_words fault)) fault in
     let named : Named c.args.fault = subst Success (c.rejected-success.ensures ∙ ap rejected c.words.ensures) c.tell.ensures in

@@ -56,7 +56,8 @@ returns-in_err-reply-in-Line-clause-same_writer g c =
     c.reply.ensures.same (Err c.in_err-reply-in-Line.field-0.0)
     (replied g.R.Read.remaining g.W.Write.contents g.T.Tape.state (is_some c.args.talker.now.heeded) table (source_reader c.args.source.now) c.args.sink.now c.requires.none_held
     c.args.talker.now.agent c.lines.source c.lines.sink c.lines.talker.agent far came.0 c.next_line.new.source c.reply.new.sink c.reply.new.talker.agent
-    c.reply.ensures.same (is_some c.lines.talker.heeded) (ap is_some c.lines.invariant.heeded) c.next_line.new.room c.in-Line.kept (Err c.in_err-reply-in-Line.field-0.0) c.in_err-reply-in-Line.ensures.replies is came.1)
+    c.reply.ensures.same (is_some c.lines.talker.heeded) (ap is_some c.lines.invariant.heeded) c.next_line.new.room c.in-Line.kept (Err c.in_err-reply-in-Line.field-0.0)
+    c.in_err-reply-in-Line.ensures.replies is came.1)
 
 pub returns-in_err-reply-in-Line-clause-leads : goal.returns-in_err-reply-in-Line-clause-leads
 returns-in_err-reply-in-Line-clause-leads g c table is =
@@ -70,7 +71,8 @@ returns-in_err-reply-in-Line-clause-leads g c table is =
     c.in_err-reply-in-Line.ensures.blames
     (replied g.R.Read.remaining g.W.Write.contents g.T.Tape.state (is_some c.args.talker.now.heeded) table (source_reader c.args.source.now) c.args.sink.now c.requires.none_held
     c.args.talker.now.agent c.lines.source c.lines.sink c.lines.talker.agent far came.0 c.next_line.new.source c.reply.new.sink c.reply.new.talker.agent
-    c.reply.ensures.same (is_some c.lines.talker.heeded) (ap is_some c.lines.invariant.heeded) c.next_line.new.room c.in-Line.kept (Err c.in_err-reply-in-Line.field-0.0) c.in_err-reply-in-Line.ensures.replies is came.1))
+    c.reply.ensures.same (is_some c.lines.talker.heeded) (ap is_some c.lines.invariant.heeded) c.next_line.new.room c.in-Line.kept (Err c.in_err-reply-in-Line.field-0.0)
+    c.in_err-reply-in-Line.ensures.replies is came.1))
 
 pub reply-requires-in-LastLine-clause-within : goal.reply-requires-in-LastLine-clause-within
 reply-requires-in-LastLine-clause-within g c =
@@ -93,7 +95,8 @@ returns-in-LastLine-clause-same_writer g c =
     c.reply-in-LastLine.new.talker.agent c.reply-in-LastLine.ensures.same c.reply-in-LastLine.result
     (replied g.R.Read.remaining g.W.Write.contents g.T.Tape.state (is_some c.args.talker.now.heeded) table (source_reader c.args.source.now) c.args.sink.now c.requires.none_held
     c.args.talker.now.agent c.lines.source c.lines.sink c.lines.talker.agent far came.0 c.next_line.new.source c.reply-in-LastLine.new.sink c.reply-in-LastLine.new.talker.agent
-    c.reply-in-LastLine.ensures.same (is_some c.lines.talker.heeded) (ap is_some c.lines.invariant.heeded) c.next_line.new.room c.in-LastLine.kept c.reply-in-LastLine.result c.reply-in-LastLine.ensures.replies is came.1)
+    c.reply-in-LastLine.ensures.same (is_some c.lines.talker.heeded) (ap is_some c.lines.invariant.heeded) c.next_line.new.room c.in-LastLine.kept c.reply-in-LastLine.result
+    c.reply-in-LastLine.ensures.replies is came.1)
 
 pub returns-in-LastLine-clause-leads : goal.returns-in-LastLine-clause-leads
 returns-in-LastLine-clause-leads g c table is =
@@ -106,12 +109,14 @@ returns-in-LastLine-clause-leads g c table is =
     c.reply-in-LastLine.ensures.blames
     (replied g.R.Read.remaining g.W.Write.contents g.T.Tape.state (is_some c.args.talker.now.heeded) table (source_reader c.args.source.now) c.args.sink.now c.requires.none_held
     c.args.talker.now.agent c.lines.source c.lines.sink c.lines.talker.agent far came.0 c.next_line.new.source c.reply-in-LastLine.new.sink c.reply-in-LastLine.new.talker.agent
-    c.reply-in-LastLine.ensures.same (is_some c.lines.talker.heeded) (ap is_some c.lines.invariant.heeded) c.next_line.new.room c.in-LastLine.kept c.reply-in-LastLine.result c.reply-in-LastLine.ensures.replies is came.1)
+    c.reply-in-LastLine.ensures.same (is_some c.lines.talker.heeded) (ap is_some c.lines.invariant.heeded) c.next_line.new.room c.in-LastLine.kept c.reply-in-LastLine.result
+    c.reply-in-LastLine.ensures.replies is came.1)
 
 pub returns-in-End-clause-leads : goal.returns-in-End-clause-leads
 returns-in-End-clause-leads g c table is =
     let far = c.lines.invariant.so_far table is in
-    led_to_end g.R.Read.remaining g.W.Write.contents g.T.Tape.state (is_some c.args.talker.now.heeded) table (source_reader c.args.source.now) c.args.sink.now c.requires.none_held c.args.talker.now.agent
+    led_to_end g.R.Read.remaining g.W.Write.contents g.T.Tape.state (is_some c.args.talker.now.heeded) table (source_reader c.args.source.now) c.args.sink.now c.requires.none_held
+    c.args.talker.now.agent
     c.lines.source c.lines.sink c.lines.talker.agent far c.next_line.new.source (c.in-End.ensures.came (source_reader c.args.source.now) far.lines far.taken)
 
 pub returns-in-Failed-clause-leads : goal.returns-in-Failed-clause-leads

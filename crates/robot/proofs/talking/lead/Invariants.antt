@@ -13,7 +13,8 @@ invariant-lines g l = record {
   heeded : l.talker.heeded ≡ l.fn.talker.heeded;
   part : l.talker.agent.part ≡ l.fn.talker.agent.part;
   of_graph : IsOfGraph l.fn.talker.agent.part;
-  so_far : (table : Timetable) → IsPartOf table l.fn.talker.agent.part → SoFar g.R.Read.remaining g.W.Write.contents g.T.Tape.state (is_some l.fn.talker.heeded) table (source_reader l.fn.source) l.source l.fn.sink l.sink l.fn.talker.agent l.talker.agent;
+  so_far : (table : Timetable) → IsPartOf table l.fn.talker.agent.part → SoFar g.R.Read.remaining g.W.Write.contents g.T.Tape.state (is_some l.fn.talker.heeded) table (source_reader l.fn.source)
+      l.source l.fn.sink l.sink l.fn.talker.agent l.talker.agent;
 }
 
 abbrev pub decreases-lines : goal.decreases-lines

@@ -9,8 +9,11 @@ use Rattle.robot.proofs.talking.reply.Goals as goal
 pub returns-in_err-send_answer-clause-replies : goal.returns-in_err-send_answer-clause-replies
 returns-in_err-send_answer-clause-replies g c =
     let p = err_from_is_err_and c.from_residual.result c.from_residual.ensures.1 in
-    λ table of track text is kept. rw (p.1, p.2)
-    (answer_line c.answer_kept-answer.result, turn_or_stale _ _ _ track text _ _ c.answer_kept-answer.result (c.answer_kept-answer.ensures.turn table of track text is kept), c.in_err-send_answer.ensures.err)
+    λ table of track text is kept. rw (p.1, p.2) (
+      answer_line c.answer_kept-answer.result,
+      turn_or_stale _ _ _ track text _ _ c.answer_kept-answer.result (c.answer_kept-answer.ensures.turn table of track text is kept),
+      c.in_err-send_answer.ensures.err,
+    )
 
 pub returns-then-says_store_failed-clause-replies : goal.returns-then-says_store_failed-clause-replies
 returns-then-says_store_failed-clause-replies g c = λ table of track text is kept.

@@ -7,7 +7,8 @@ pub returns-in-Ok : goal.returns-in-Ok
 returns-in-Ok g c = record {
   answer = Ok c.in-Ok.verdict;
   judges = c.in-Ok.ensures;
-  ends = row_verdict_ends g.W.Write.contents c.args.out.now c.write_row_verdict-written.new.writer c.finish.new.out c.in-Ok.verdict _ _ _ (c.answered_with.ensures ∙ ap answered_with c.status.ensures) c.write_row_verdict-written.ensures c.finish.ensures;
+  ends = row_verdict_ends g.W.Write.contents c.args.out.now c.write_row_verdict-written.new.writer c.finish.new.out c.in-Ok.verdict _ _ _ (c.answered_with.ensures ∙ ap answered_with c.status.ensures)
+      c.write_row_verdict-written.ensures c.finish.ensures;
 }
 
 pub returns-in-Err : goal.returns-in-Err

@@ -41,6 +41,7 @@ pub returns : goal.returns
 returns c =
     let q = c.args.row.now in (
       c.in_ok-shortest.shortest,
-      certified _ q c.start-start.result c.goal-goal.result c.in_ok-proposal.proposal c.in_ok-shortest.shortest c.start-start.ensures c.goal-goal.ensures c.in_ok-shortest.ensures.answer c.in_ok-shortest.ensures.least,
+      certified _ q c.start-start.result c.goal-goal.result c.in_ok-proposal.proposal c.in_ok-shortest.shortest c.start-start.ensures c.goal-goal.ensures c.in_ok-shortest.ensures.answer
+          c.in_ok-shortest.ensures.least,
       on_query q _ _ _ _ c.listed.ensures.number c.listed.ensures.decimals c.new.ensures,
     )

@@ -61,5 +61,8 @@ returns-then-eq c =
     let at_end = subst (λ cells. GoesOn m c.args.start c.args.goal walk c.loop-next.straight c.loop-next.diagonal c.loop-next.last cells)
     (drop_all c.loop-next.next-index c.args.rest.now (omega (arith, c.loop-next-test.false))) now.goes_on in
     let ends = goes_on-end m c.args.start c.args.goal walk c.loop-next.straight c.loop-next.diagonal c.loop-next.last
-    c.args.length.straight c.args.length.diagonal now.on at_end in
-    (λ e. let h = c.is_of.ensures.0 e in ends.0 (cell_from_tests c.loop-next.last c.args.goal (sym c.eq.ensures ∙ c.if-eq.true), h.0, h.1), λ whole. let h = ends.1 whole in c.is_of.ensures.1 (h.1, h.2))
+    c.args.length.straight c.args.length.diagonal now.on at_end in (
+      λ e. let h = c.is_of.ensures.0 e in ends.0 (cell_from_tests c.loop-next.last c.args.goal (sym c.eq.ensures ∙ c.if-eq.true), h.0, h.1),
+      λ whole. let h = ends.1 whole in c.is_of.ensures.1
+          (h.1, h.2),
+    )

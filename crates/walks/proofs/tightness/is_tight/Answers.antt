@@ -19,6 +19,7 @@ loop-band-preserved c y less row x column = elim (cases_lt y (64 * c.loop-band.b
 
 pub returns : goal.returns
 returns c = (
-  λ e. tight_from_numbers c.args.map.now c.args.entries.now c.requires.cells (λ y row x column. c.loop-band.invariant y (omega (arith, row, c.loop-band-test.false, c.div_ceil-band-end.ensures, c.height.ensures.height)) row x column),
+  λ e. tight_from_numbers c.args.map.now c.args.entries.now c.requires.cells (λ y row x column. c.loop-band.invariant y
+      (omega (arith, row, c.loop-band-test.false, c.div_ceil-band-end.ensures, c.height.ensures.height)) row x column),
   λ tight. refl,
 )

@@ -17,7 +17,8 @@ returns-then-is_some-clause-looks g c tt is =
     let least = c.min-left.ensures in
     let less = c.moves-test.true in
     let free : WaitForNobody tt i is.track s c.moves.count = subst (λ b. (n : ℕ) → n < c.moves.count → waits_for s.heard (need tt i is.track (b + n)) ≡ None) begun (c.moves.invariant.free tt is) in
-    let waits : c.waits.result ≡ waits_for s.heard (need tt i is.track (begun_moves s + c.moves.count)) = c.waits.ensures tt is ∙ ap (λ b. waits_for s.heard (need tt i is.track (b + c.moves.count))) begun in (
+    let waits : c.waits.result ≡ waits_for s.heard (need tt i is.track (begun_moves s + c.moves.count)) = c.waits.ensures tt is ∙ ap (λ b. waits_for s.heard (need tt i is.track (b + c.moves.count)))
+    begun in (
       is.track,
       is.is_track,
       free-up-to tt i is.track s whole c.args.most c.moves.count (omega (arith, least, less)) (omega (arith, least, less, begun, all)) free

@@ -13,7 +13,8 @@ invariant_of-self-2 g c =
       of_graph = c.self.invariant.of_graph;
       own = c.self.invariant.own;
       within = subst (λ n. AreWithin n c.raise_all.new.self) (sym same)
-          (raised-within (length of.0.tracks) c.self.inside.counters c.raise_all.new.self (entries_of c.args.entries) (subst (λ n. AreWithin n c.self.inside.counters) same c.self.invariant.within) c.in_ok-raise_all.ensures.raised
+          (raised-within (length of.0.tracks) c.self.inside.counters c.raise_all.new.self (entries_of c.args.entries) (subst (λ n. AreWithin n c.self.inside.counters) same c.self.invariant.within)
+          c.in_ok-raise_all.ensures.raised
           (names-known of.0 (record { sender = c.args.from; entries = entries_of c.args.entries }) (sym (c.refusal_of.ensures of.0 of.2) ∙ c.in_default.is)));
     }
 

@@ -39,5 +39,6 @@ loop-course-preserved c =
     let more = greatest-more items at c.course-item.result there keeps in
     record {
       tracks = now.tracks;
-      all = max_more c.loop-course.greatest _ _ _ _ c.max-greatest.result more now.all (c.max-greatest.ensures ∙ greater c.loop-course.greatest (length c.acts.result.now) ∙ ap (λ l. max c.loop-course.greatest (length l)) c.acts.ensures);
+      all = max_more c.loop-course.greatest _ _ _ _ c.max-greatest.result more now.all (c.max-greatest.ensures ∙ greater c.loop-course.greatest (length c.acts.result.now) ∙ ap
+          (λ l. max c.loop-course.greatest (length l)) c.acts.ensures);
     }

@@ -32,7 +32,7 @@ returns-then-take_step-clause-seen c =
     let then : AreUnderWay m p.courses 0 new after = starts_wait m p.courses turns c.args.waits.now old new squares after h c.requires.waits
     (all_start m p.courses old squares c.requires.board c.requires.walkers c.requires.agents) c.take_step.ensures.led c.take_step.ensures.grounds in
     let marks : AreMarksOf (first_mark 1) new after = subst (λ n. AreMarksOf n new after) (c.new-turns.ensures.first ∙ c.first_mark.ensures) c.take_step.ensures.marks in
-    if_past c.fault_at_start.result (IsClean m p 1) (IsSeen m p 0 new after) (IsLeastFault m p) (λ clean. record { under_way = then; clean = clean; marks = marks }) c.fault_at_start.ensures
+    if_past c.fault_at.result (IsClean m p 1) (IsSeen m p 0 new after) (IsLeastFault m p) (λ clean. record { under_way = then; clean = clean; marks = marks }) c.fault_at.ensures
 
 pub returns-else-take_step-clause-seen : goal.returns-else-take_step-clause-seen
 returns-else-take_step-clause-seen c =

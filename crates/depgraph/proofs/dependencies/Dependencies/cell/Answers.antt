@@ -11,7 +11,8 @@ pub entry_at-requires : goal.entry_at-requires
 entry_at-requires c =
     let g = c.self.inside in
     let h = subst (λ v. AreKept v (cells_by g.names.items g.numbers.items) g.times.items g.ends.items g.needs.items) c.self.view_is c.self.invariant.0 in
-    subst (λ l. (i : ℕ) → i < length l → begin_in l i ≤ get_or l i 0) (sym c.deref.ensures.value) (begins_before c.args.self.now (cells_by g.names.items g.numbers.items) g.times.items g.ends.items g.needs.items h.visits h.visit_ends h.kept)
+    subst (λ l. (i : ℕ) → i < length l → begin_in l i ≤ get_or l i 0) (sym c.deref.ensures.value)
+    (begins_before c.args.self.now (cells_by g.names.items g.numbers.items) g.times.items g.ends.items g.needs.items h.visits h.visit_ends h.kept)
 
 pub returns-in_err-entry : goal.returns-in_err-entry
 returns-in_err-entry c =
@@ -26,7 +27,8 @@ cell_at-requires-clause-index c =
     let g = c.self.inside in
     let h = subst (λ v. AreKept v (cells_by g.names.items g.numbers.items) g.times.items g.ends.items g.needs.items) c.self.view_is c.self.invariant.0 in
     let entry = subst (λ l. IsEntry l c.args.agent c.args.index c.in_ok-entry.entry) c.deref.ensures.value c.in_ok-entry.ensures in
-    let inside = (entry_inside c.args.self.now (cells_by g.names.items g.numbers.items) g.times.items g.ends.items g.needs.items h.visits h.visit_ends h.kept c.args.agent c.args.index c.in_ok-entry.entry entry).0 in
+    let inside = (entry_inside c.args.self.now (cells_by g.names.items g.numbers.items) g.times.items g.ends.items g.needs.items h.visits h.visit_ends h.kept c.args.agent c.args.index
+    c.in_ok-entry.entry entry).0 in
     let count = length-cells_by g.names.items g.numbers.items in
     let long = ap length c.deref-3.ensures.value in
     omega (arith, inside, count, long)

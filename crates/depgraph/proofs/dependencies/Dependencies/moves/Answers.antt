@@ -69,4 +69,5 @@ returns-else-agent-len-clause-moves c =
     let past = c.if-agent-len.false in
     let asked = c.len.ensures in
     let count = g.ends.ok.0 in
-    sym (ap (option_map moves) (no_track_at c.args.self.now (cells_by g.names.items g.numbers.items) g.times.items g.ends.items g.needs.items h.visits h.visit_ends h.kept c.args.agent (omega (arith, past, asked, count))))
+    sym (ap (option_map moves) (no_track_at c.args.self.now (cells_by g.names.items g.numbers.items) g.times.items g.ends.items g.needs.items h.visits h.visit_ends h.kept c.args.agent
+    (omega (arith, past, asked, count))))

@@ -15,7 +15,8 @@ pub entry_at-requires : goal.entry_at-requires
 entry_at-requires c =
     let g = c.self.inside in
     let h = subst (λ v. AreKept v (cells_by g.names.items g.numbers.items) g.times.items g.ends.items g.needs.items) c.self.view_is c.self.invariant.0 in
-    subst (λ l. (i : ℕ) → i < length l → begin_in l i ≤ get_or l i 0) (sym c.deref.ensures.value) (begins_before c.args.self.now (cells_by g.names.items g.numbers.items) g.times.items g.ends.items g.needs.items h.visits h.visit_ends h.kept)
+    subst (λ l. (i : ℕ) → i < length l → begin_in l i ≤ get_or l i 0) (sym c.deref.ensures.value)
+    (begins_before c.args.self.now (cells_by g.names.items g.numbers.items) g.times.items g.ends.items g.needs.items h.visits h.visit_ends h.kept)
 
 pub returns-in_err-entry : goal.returns-in_err-entry
 returns-in_err-entry c =
@@ -31,7 +32,8 @@ index-wait-requires c =
     let h = subst (λ v. AreKept v (cells_by g.names.items g.numbers.items) g.times.items g.ends.items g.needs.items) c.self.view_is c.self.invariant.0 in
     let e = c.in_ok-entry.entry in
     let entry = subst (λ l. IsEntry l c.args.agent (c.args.number + 1) e) c.deref.ensures.value c.in_ok-entry.ensures in
-    let inside = (entry_inside c.args.self.now (cells_by g.names.items g.numbers.items) g.times.items g.ends.items g.needs.items h.visits h.visit_ends h.kept c.args.agent (c.args.number + 1) e entry).2 in
+    let inside = (entry_inside c.args.self.now (cells_by g.names.items g.numbers.items) g.times.items g.ends.items g.needs.items h.visits h.visit_ends h.kept c.args.agent (c.args.number + 1) e
+    entry).2 in
     let count = g.needs.ok.0 in
     omega (arith, inside, count)
 
@@ -41,7 +43,8 @@ returns-then-wait-eq0 c =
     let h = subst (λ v. AreKept v (cells_by g.names.items g.numbers.items) g.times.items g.ends.items g.needs.items) c.self.view_is c.self.invariant.0 in
     let e = c.in_ok-entry.entry in
     let entry = subst (λ l. IsEntry l c.args.agent (c.args.number + 1) e) c.deref.ensures.value c.in_ok-entry.ensures in
-    let inside = (entry_inside c.args.self.now (cells_by g.names.items g.numbers.items) g.times.items g.ends.items g.needs.items h.visits h.visit_ends h.kept c.args.agent (c.args.number + 1) e entry).2 in
+    let inside = (entry_inside c.args.self.now (cells_by g.names.items g.numbers.items) g.times.items g.ends.items g.needs.items h.visits h.visit_ends h.kept c.args.agent (c.args.number + 1) e
+    entry).2 in
     let kept = kept_need c.args.self.now (cells_by g.names.items g.numbers.items) g.times.items g.ends.items g.needs.items h.visits h.visit_ends h.kept c.args.agent c.args.number e entry in
     let w = c.index-wait.result.now in
     let wait = c.index-wait.ensures ∙ get_or_default g.needs.items e w no_wait inside in
@@ -53,7 +56,8 @@ returns-else-wait-eq0 c =
     let h = subst (λ v. AreKept v (cells_by g.names.items g.numbers.items) g.times.items g.ends.items g.needs.items) c.self.view_is c.self.invariant.0 in
     let e = c.in_ok-entry.entry in
     let entry = subst (λ l. IsEntry l c.args.agent (c.args.number + 1) e) c.deref.ensures.value c.in_ok-entry.ensures in
-    let inside = (entry_inside c.args.self.now (cells_by g.names.items g.numbers.items) g.times.items g.ends.items g.needs.items h.visits h.visit_ends h.kept c.args.agent (c.args.number + 1) e entry).2 in
+    let inside = (entry_inside c.args.self.now (cells_by g.names.items g.numbers.items) g.times.items g.ends.items g.needs.items h.visits h.visit_ends h.kept c.args.agent (c.args.number + 1) e
+    entry).2 in
     let kept = kept_need c.args.self.now (cells_by g.names.items g.numbers.items) g.times.items g.ends.items g.needs.items h.visits h.visit_ends h.kept c.args.agent c.args.number e entry in
     let w = c.index-wait.result.now in
     let wait = c.index-wait.ensures ∙ get_or_default g.needs.items e w no_wait inside in

@@ -32,5 +32,6 @@ returns-else-agent-len c =
     let past = c.if-agent-len.false in
     let asked = c.len.ensures in
     let count = g.ends.ok.0 in
-    let none = no_track_at c.args.self.now (cells_by g.names.items g.numbers.items) g.times.items g.ends.items g.needs.items h.visits h.visit_ends h.kept c.args.agent (omega (arith, past, asked, count)) in
+    let none = no_track_at c.args.self.now (cells_by g.names.items g.numbers.items) g.times.items g.ends.items g.needs.items h.visits h.visit_ends h.kept c.args.agent
+    (omega (arith, past, asked, count)) in
     subst (λ o. MatchOption o (no_route ≡ None) (λ track. IsSomeAnd no_route (λ route. IsRouteOf c.args.self.now c.args.agent track route))) (sym none) refl

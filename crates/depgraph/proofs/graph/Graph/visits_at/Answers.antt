@@ -65,4 +65,5 @@ returns c =
     let value : lookup (same_cell c.args.cell) g.cells.entries ≡ Some n = sym c.in_ok-number.ensures.value in
     let at = found same_cell same_cell-same h.kept.placing.names h.ordered.order c.args.cell n (ap (lookup (same_cell c.args.cell)) (sym h.ordered.are) ∙ value) in
     let part = c.visits_of.ensures ∙ ap (λ l. part_of l c.deref.result.now n) c.deref-2.ensures.value ∙ ap (λ l. part_of g.visit_ends.items l n) c.deref.ensures.value in
-    subst (AreVisitsTo c.args.self.now c.args.cell) (sym part) (visits_of_cell c.args.self.now h.cells h.times h.ends h.needs g.visits.items g.visit_ends.items h.kept h.ordered.order h.ordered.ordered at.0 n c.args.cell at.1 at.2)
+    subst (AreVisitsTo c.args.self.now c.args.cell) (sym part) (visits_of_cell c.args.self.now h.cells h.times h.ends h.needs g.visits.items g.visit_ends.items h.kept h.ordered.order h.ordered.ordered
+    at.0 n c.args.cell at.1 at.2)

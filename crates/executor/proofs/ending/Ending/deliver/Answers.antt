@@ -27,7 +27,8 @@ returns-then-slot-len-clause-leads c version h begins was =
     let to_there = c.requires.to_there in
     let all = c.requires.all in
     let at = slice_get-get_or c.self.inside.standings.items c.args.to x (omega (arith, to_there, all, stand)) in
-    let from_at = slice_get-get_or c.self.inside.standings.items c.args.from x (omega (arith, from_there, all, stand)) ∙ ap (λ s. Some s) (ap (λ n. get_or c.self.inside.standings.items n x) (sym index) ∙ sym c.index.ensures) in
+    let from_at = slice_get-get_or c.self.inside.standings.items c.args.from x (omega (arith, from_there, all, stand)) ∙ ap (λ s. Some s)
+    (ap (λ n. get_or c.self.inside.standings.items n x) (sym index) ∙ sym c.index.ensures) in
     let none : Track = record { start = record { x = 0; y = 0 }; later = [] } in
     let its = slice_get-get_or c.self.inside.graph.now.tracks c.args.to none (let count = c.self.invariant.0 in omega (arith, to_there, crew, count)) in
     let told = told-is c.self.inside.standings.items c.args.from x from_at in
@@ -48,7 +49,8 @@ returns-else-slot-len-clause-leads c version h begins was =
     let to_there = c.requires.to_there in
     let all = c.requires.all in
     let at = slice_get-get_or c.self.inside.standings.items c.args.to x (omega (arith, to_there, all, stand)) in
-    let from_at = slice_get-get_or c.self.inside.standings.items c.args.from x (omega (arith, from_there, all, stand)) ∙ ap (λ s. Some s) (ap (λ n. get_or c.self.inside.standings.items n x) (sym index) ∙ sym c.index.ensures) in
+    let from_at = slice_get-get_or c.self.inside.standings.items c.args.from x (omega (arith, from_there, all, stand)) ∙ ap (λ s. Some s)
+    (ap (λ n. get_or c.self.inside.standings.items n x) (sym index) ∙ sym c.index.ensures) in
     let none : Track = record { start = record { x = 0; y = 0 }; later = [] } in
     let its = slice_get-get_or c.self.inside.graph.now.tracks c.args.to none (let count = c.self.invariant.0 in omega (arith, to_there, crew, count)) in
     let told = told-is c.self.inside.standings.items c.args.from x from_at in
@@ -69,7 +71,8 @@ returns-then-slot-len-clause-teaches c version h begins was =
     let to_there = c.requires.to_there in
     let all = c.requires.all in
     let at = slice_get-get_or c.self.inside.standings.items c.args.to x (omega (arith, to_there, all, stand)) in
-    let from_at = slice_get-get_or c.self.inside.standings.items c.args.from x (omega (arith, from_there, all, stand)) ∙ ap (λ s. Some s) (ap (λ n. get_or c.self.inside.standings.items n x) (sym index) ∙ sym c.index.ensures) in
+    let from_at = slice_get-get_or c.self.inside.standings.items c.args.from x (omega (arith, from_there, all, stand)) ∙ ap (λ s. Some s)
+    (ap (λ n. get_or c.self.inside.standings.items n x) (sym index) ∙ sym c.index.ensures) in
     let none : Track = record { start = record { x = 0; y = 0 }; later = [] } in
     let its = slice_get-get_or c.self.inside.graph.now.tracks c.args.to none (let count = c.self.invariant.0 in omega (arith, to_there, crew, count)) in
     let told = told-is c.self.inside.standings.items c.args.from x from_at in
@@ -91,7 +94,8 @@ returns-else-slot-len-clause-teaches c version h begins was =
     let to_there = c.requires.to_there in
     let all = c.requires.all in
     let at = slice_get-get_or c.self.inside.standings.items c.args.to x (omega (arith, to_there, all, stand)) in
-    let from_at = slice_get-get_or c.self.inside.standings.items c.args.from x (omega (arith, from_there, all, stand)) ∙ ap (λ s. Some s) (ap (λ n. get_or c.self.inside.standings.items n x) (sym index) ∙ sym c.index.ensures) in
+    let from_at = slice_get-get_or c.self.inside.standings.items c.args.from x (omega (arith, from_there, all, stand)) ∙ ap (λ s. Some s)
+    (ap (λ n. get_or c.self.inside.standings.items n x) (sym index) ∙ sym c.index.ensures) in
     let none : Track = record { start = record { x = 0; y = 0 }; later = [] } in
     let its = slice_get-get_or c.self.inside.graph.now.tracks c.args.to none (let count = c.self.invariant.0 in omega (arith, to_there, crew, count)) in
     let told = told-is c.self.inside.standings.items c.args.from x from_at in

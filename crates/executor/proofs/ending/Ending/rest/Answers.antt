@@ -32,5 +32,6 @@ returns-clause-leads c version h begins was =
     (c.in_ok-push_rest.ensures.put ∙ ap (λ b. c.self.inside.events.items ++ rest_events b c.is_moving-moving.result c.args.id) c.is_opened_anew.ensures
     ∙ ap (λ b. c.self.inside.events.items ++ rest_events (is_opened_anew a) b c.args.id) c.is_moving-moving.ensures)
     c.in_ok-push.ensures.items
-    (ap (λ n. n + c.from.result) c.done.ensures.finished_moves ∙ ap (λ n. states.finished_moves (state_of counted_state a) + n) (c.from.ensures ∙ as_number c.is_moving-moving.result ∙ ap one_if c.is_moving-moving.ensures))
+    (ap (λ n. n + c.from.result) c.done.ensures.finished_moves ∙ ap (λ n. states.finished_moves (state_of counted_state a) + n)
+    (c.from.ensures ∙ as_number c.is_moving-moving.result ∙ ap one_if c.is_moving-moving.ensures))
     refl begins_in was_in

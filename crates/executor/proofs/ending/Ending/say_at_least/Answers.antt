@@ -19,7 +19,8 @@ returns-clause-leads c version h begins was =
     let there = c.requires.there in
     let all = c.requires.all in
     let within : c.args.agent < length c.self.inside.standings.items = omega (arith, there, all, stand) in
-    let at = slice_get-get_or c.self.inside.standings.items c.args.agent x within ∙ ap (λ s. Some s) (ap (λ n. get_or c.self.inside.standings.items n x) (sym index) ∙ sym c.index_mut-standing.ensures.value) in
+    let at = slice_get-get_or c.self.inside.standings.items c.args.agent x within ∙ ap (λ s. Some s)
+    (ap (λ n. get_or c.self.inside.standings.items n x) (sym index) ∙ sym c.index_mut-standing.ensures.value) in
     let none : Track = record { start = record { x = 0; y = 0 }; later = [] } in
     let its = slice_get-get_or c.self.inside.graph.now.tracks c.args.agent none (let count = c.self.invariant.0 in omega (arith, there, crew, count)) in
     say-on version h _ _ c.args.agent x y _ at its (omega (arith, crew, stand, all)) (record { timetable = refl; agents = refl }) refl refl
@@ -35,7 +36,8 @@ returns-clause-told c =
     let there = c.requires.there in
     let all = c.requires.all in
     let within : c.args.agent < length c.self.inside.standings.items = omega (arith, there, all, stand) in
-    let at = slice_get-get_or c.self.inside.standings.items c.args.agent x within ∙ ap (λ s. Some s) (ap (λ n. get_or c.self.inside.standings.items n x) (sym index) ∙ sym c.index_mut-standing.ensures.value) in
+    let at = slice_get-get_or c.self.inside.standings.items c.args.agent x within ∙ ap (λ s. Some s)
+    (ap (λ n. get_or c.self.inside.standings.items n x) (sym index) ∙ sym c.index_mut-standing.ensures.value) in
     let now = ap (λ n. told_in (set c.self.inside.standings.items n y) c.args.agent) index ∙ told-set c.self.inside.standings.items c.args.agent y within in
     let so_far = ap (λ s. finished_in s.standings c.args.agent) (sym c.self.view_is) ∙ finished-is c.self.inside.standings.items c.args.agent x at in
     let many = c.requires.so_many in

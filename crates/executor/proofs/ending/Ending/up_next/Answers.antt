@@ -18,7 +18,8 @@ returns-then-index-moves-clause-next c =
     let stand = ap (λ s. length s.standings) c.self.view_is in
     let inside = c.requires.there in
     let all = c.requires.all in
-    let at = slice_get-get_or c.self.inside.standings.items c.args.agent x (omega (arith, inside, all, stand)) ∙ ap (λ s. Some s) (ap (λ n. get_or c.self.inside.standings.items n x) (sym c.from.ensures) ∙ sym c.index.ensures) in
+    let at = slice_get-get_or c.self.inside.standings.items c.args.agent x (omega (arith, inside, all, stand)) ∙ ap (λ s. Some s)
+    (ap (λ n. get_or c.self.inside.standings.items n x) (sym c.from.ensures) ∙ sym c.index.ensures) in
     let so_far = ap (λ s. finished_in s.standings c.args.agent) (sym c.self.view_is) ∙ finished-is c.self.inside.standings.items c.args.agent x at in
     let less = c.if-index-moves.true in
     let count = c.moves.ensures.2 in
@@ -31,7 +32,8 @@ returns-else-index-moves-clause-none c =
     let stand = ap (λ s. length s.standings) c.self.view_is in
     let inside = c.requires.there in
     let all = c.requires.all in
-    let at = slice_get-get_or c.self.inside.standings.items c.args.agent x (omega (arith, inside, all, stand)) ∙ ap (λ s. Some s) (ap (λ n. get_or c.self.inside.standings.items n x) (sym c.from.ensures) ∙ sym c.index.ensures) in
+    let at = slice_get-get_or c.self.inside.standings.items c.args.agent x (omega (arith, inside, all, stand)) ∙ ap (λ s. Some s)
+    (ap (λ n. get_or c.self.inside.standings.items n x) (sym c.from.ensures) ∙ sym c.index.ensures) in
     let so_far = ap (λ s. finished_in s.standings c.args.agent) (sym c.self.view_is) ∙ finished-is c.self.inside.standings.items c.args.agent x at in
     let past = c.if-index-moves.false in
     let count = c.moves.ensures.2 in

@@ -12,7 +12,8 @@ returns-then-not-is_free c h stands =
     let inside = subst (λ r. StandsAt r h) (sym c.self.view_is) stands in
     let first = first-listed c.rotations.result.now (sym c.is_empty-is_free.ensures ∙ c.if-not-is_free.true) in
     subst (λ r. IsBlockedBy r.timetable h 0) c.self.view_is
-    (first-blocks (λ v tab step agents h place i track free turns run. never v tab step agents free turns h run place i track) in_step c.self.inside.said.version c.self.inside.graph.now h inside.conflict_free inside.run _ c.rotations.ensures first.0 first.1)
+    (first-blocks (λ v tab step agents h place i track free turns run. never v tab step agents free turns h run place i track) in_step c.self.inside.said.version c.self.inside.graph.now h
+    inside.conflict_free inside.run _ c.rotations.ensures first.0 first.1)
 
 pub bring_all_to_ends-requires-clause-still : goal.bring_all_to_ends-requires-clause-still
 bring_all_to_ends-requires-clause-still c = none-listed c.self.inside.graph.now c.rotations.result.now c.rotations.ensures (sym c.is_empty-is_free.ensures ∙ c.if-not-is_free.false)

@@ -21,7 +21,8 @@ returns-clause-heard c =
     let there = slice_get-get_or c.self.inside.agents.items c.args.agent a within ∙ ap (λ x. Some x) (sym c.index_mut.ensures.value) in
     let message : Message = own_message c.own-entry.result.agent c.own-entry.result.done in
     let finished : Finished = record { from = c.own-entry.result.agent; plan = c.number.result; done = c.own-entry.result.done } in
-    let given = own-gives _ h inside c.args.agent within c.args.message a there message c.own-entry.ensures c.messages_of_runs.ensures c.hear_finished.new.self c.hear_finished.result finished refl c.number.ensures.number c.hear_finished.ensures.hears in
+    let given = own-gives _ h inside c.args.agent within c.args.message a there message c.own-entry.ensures c.messages_of_runs.ensures c.hear_finished.new.self c.hear_finished.result finished refl
+    c.number.ensures.number c.hear_finished.ensures.hears in
     let found = delivered-on _ h inside c.args.agent within c.args.message a there message c.own-entry.ensures c.hear_finished.new.self c.hear_finished.result (answer_of reply) given is in
     (found.0 ∙ ap (λ r. answer r.version r.timetable h (Deliver c.args.agent c.args.message)) c.self.view_is, found.1)) c.reply_to_delivery.ensures
 
@@ -34,7 +35,8 @@ returns-clause-memory c =
     let there = slice_get-get_or c.self.inside.agents.items c.args.agent a within ∙ ap (λ x. Some x) (sym c.index_mut.ensures.value) in
     let message : Message = own_message c.own-entry.result.agent c.own-entry.result.done in
     let finished : Finished = record { from = c.own-entry.result.agent; plan = c.number.result; done = c.own-entry.result.done } in
-    let given = own-gives _ h inside c.args.agent within c.args.message a there message c.own-entry.ensures c.messages_of_runs.ensures c.hear_finished.new.self c.hear_finished.result finished refl c.number.ensures.number c.hear_finished.ensures.hears in
+    let given = own-gives _ h inside c.args.agent within c.args.message a there message c.own-entry.ensures c.messages_of_runs.ensures c.hear_finished.new.self c.hear_finished.result finished refl
+    c.number.ensures.number c.hear_finished.ensures.hears in
     subst (λ r. TakesMemory r.version r.timetable h (Deliver c.args.agent c.args.message)) c.self.view_is
     (wants-on _ h inside c.args.agent within c.args.message a there message c.own-entry.ensures c.hear_finished.new.self c.hear_finished.result given none)) c.reply_to_delivery.ensures
 
@@ -45,7 +47,13 @@ returns-clause-err c =
     let a = c.index_mut.result.now in
     let there = slice_get-get_or c.self.inside.agents.items c.args.agent a within ∙ ap (λ x. Some x) (sym c.index_mut.ensures.value) in
     let of = c.hear_finished.ensures.within in
-    let same = still-from of.0 a c.hear_finished.new.self (record { from = c.own-entry.result.agent; plan = c.number.result; done = c.own-entry.result.done }) c.hear_finished.result none (c.hear_finished.ensures.hears of.0 of.2) in
-    ap {A = List (AgentOn CountedTape)} {B = RunnerState} (λ l. record { timetable = c.self.inside.graph.now; version = c.self.inside.said.version; agents = l; messages = c.self.inside.said.messages })
+    let same = still-from of.0 a c.hear_finished.new.self (record { from = c.own-entry.result.agent; plan = c.number.result; done = c.own-entry.result.done }) c.hear_finished.result none
+    (c.hear_finished.ensures.hears of.0 of.2) in
+    ap {A = List (AgentOn CountedTape)} {B = RunnerState} (λ l. record {
+      timetable = c.self.inside.graph.now;
+      version = c.self.inside.said.version;
+      agents = l;
+      messages = c.self.inside.said.messages;
+    })
     (ap (set c.self.inside.agents.items c.args.agent) same ∙ set-same c.self.inside.agents.items c.args.agent a there)
     ∙ c.self.view_is) c.reply_to_delivery.ensures

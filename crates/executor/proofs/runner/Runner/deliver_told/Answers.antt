@@ -47,7 +47,13 @@ returns-clause-err c =
     let a = c.index_mut.result.now in
     let there = slice_get-get_or c.self.inside.agents.items c.args.agent a within ∙ ap (λ x. Some x) (sym c.index_mut.ensures.value) in
     let of = c.hear_entries.ensures.within in
-    let same = still-of of.0 a c.hear_entries.new.self (record { sender = c.told-sender.result.0; entries = c.told-sender.result.1.now }) c.hear_entries.result none (c.hear_entries.ensures.hears of.0 of.2) in
-    ap {A = List (AgentOn CountedTape)} {B = RunnerState} (λ l. record { timetable = c.self.inside.graph.now; version = c.self.inside.said.version; agents = l; messages = c.self.inside.said.messages })
+    let same = still-of of.0 a c.hear_entries.new.self (record { sender = c.told-sender.result.0; entries = c.told-sender.result.1.now }) c.hear_entries.result none
+    (c.hear_entries.ensures.hears of.0 of.2) in
+    ap {A = List (AgentOn CountedTape)} {B = RunnerState} (λ l. record {
+      timetable = c.self.inside.graph.now;
+      version = c.self.inside.said.version;
+      agents = l;
+      messages = c.self.inside.said.messages;
+    })
     (ap (set c.self.inside.agents.items c.args.agent) same ∙ set-same c.self.inside.agents.items c.args.agent a there)
     ∙ c.self.view_is) c.reply_to_delivery.ensures

@@ -13,9 +13,17 @@ returns-then-index-len-clause-goes c h stands =
 pub returns-clause-goes : goal.returns-clause-goes
 returns-clause-goes c h stands =
     let inside = subst (λ r. StandsAt r h) (sym c.self.view_is) stands in
-    let there = slice_get-get_or c.self.inside.agents.items c.args.agent c.index_mut-agent.result.now (let past = c.if-index-len.false in let count = c.len.ensures in omega (arith, past, count)) ∙ ap (λ a. Some a) (sym c.index_mut-agent.ensures.value) in
-    let found = restart-on _ h inside c.args.agent c.index_mut-agent.result.now c.reopen.new.agent c.held.result c.done.result there c.reopen.ensures c.held.ensures.holds c.done.ensures.finished_moves in
+    let there = slice_get-get_or c.self.inside.agents.items c.args.agent c.index_mut-agent.result.now (let past = c.if-index-len.false in let count = c.len.ensures in omega (arith, past, count)) ∙ ap
+    (λ a. Some a) (sym c.index_mut-agent.ensures.value) in
+    let found = restart-on _ h inside c.args.agent c.index_mut-agent.result.now c.reopen.new.agent c.held.result c.done.result there c.reopen.ensures c.held.ensures.holds c.done.ensures.finished_moves
+    in
     subst (λ r. (r ≡ answer c.args.self.now.version c.args.self.now.timetable h (Restart c.args.agent))
-    × StandsAt (record { timetable = c.self.inside.graph.now; version = c.self.inside.said.version; agents = set c.self.inside.agents.items c.args.agent c.reopen.new.agent; messages = c.self.inside.said.messages }) (record { event = Restart c.args.agent; answer = r } ∷ h))
+    × StandsAt (record {
+      timetable = c.self.inside.graph.now;
+      version = c.self.inside.said.version;
+      agents = set c.self.inside.agents.items c.args.agent c.reopen.new.agent;
+      messages =
+          c.self.inside.said.messages;
+    }) (record { event = Restart c.args.agent; answer = r } ∷ h))
     (sym c.reply_to_restart.ensures)
     (found.0 ∙ ap (λ r. answer r.version r.timetable h (Restart c.args.agent)) c.self.view_is, found.1)

@@ -5,7 +5,11 @@ use Rattle.std.specs.Cmp.Lexicographic.{bytes_decides}
 use Rattle.std.proofs.lemmas.Bool.{both_ways, not-true, eqb-true}
 use Rattle.plan_text.proofs.PartLemmas.{some_found, three, no_agent, no_column, no_row, no_acts, more_parts}
 use Rattle.plan_text.proofs.agent_line.Parts.from_line.Goals as goal
-use Rattle.plan_text.proofs.agent_line.Parts.from_line.Goals.{then-ne-via-then-ne, then-ne-via-else-ne+then-is_empty, then-ne-via-else-ne+else-is_empty+then-is_empty-2, then-ne-via-else-ne+else-is_empty+else-is_empty-2+then-is_empty-3, then-ne-via-else-ne+else-is_empty+else-is_empty-2+else-is_empty-3+then-is_some}
+use Rattle.plan_text.proofs.agent_line.Parts.from_line.Goals.{then-ne-via-then-ne}
+use Rattle.plan_text.proofs.agent_line.Parts.from_line.Goals.{then-ne-via-else-ne+then-is_empty}
+use Rattle.plan_text.proofs.agent_line.Parts.from_line.Goals.{then-ne-via-else-ne+else-is_empty+then-is_empty-2}
+use Rattle.plan_text.proofs.agent_line.Parts.from_line.Goals.{then-ne-via-else-ne+else-is_empty+else-is_empty-2+then-is_empty-3}
+use Rattle.plan_text.proofs.agent_line.Parts.from_line.Goals.{then-ne-via-else-ne+else-is_empty+else-is_empty-2+else-is_empty-3+then-is_some}
 
 pub returns-then-ne : goal.returns-then-ne
 returns-then-ne c =

@@ -10,7 +10,8 @@ pub returns-then-is_some-clause-cases : goal.returns-then-is_some-clause-cases
 returns-then-is_some-clause-cases g c =
     let s = c.args.self.now in
     let empty = slice_range-empty s.piece s.start s.end c.if-self.false in
-    stays_stopped g.R.Read.remaining s (record { reader = s.reader; piece = s.piece; start = s.start; end = s.end; stop = s.stop; reads_some = _; few = _; ordered = _; in_piece = _; stops_empty = _ }) refl refl empty empty c.if-is_some.ensures
+    stays_stopped g.R.Read.remaining s (record { reader = s.reader; piece = s.piece; start = s.start; end = s.end; stop = s.stop; reads_some = _; few = _; ordered = _; in_piece = _; stops_empty = _ })
+    refl refl empty empty c.if-is_some.ensures
 
 pub returns-in-Err-clause-takes : goal.returns-in-Err-clause-takes
 returns-in-Err-clause-takes g c = Takes-failure g.R.Read.remaining c.args.self.now _ refl c.if-self.false c.if-is_some.ensures refl refl

@@ -12,7 +12,8 @@ loop-entry-preserved c =
     let es = c.args.entries.now in
     let i = c.loop-entry.entry-index in
     ap (map (λ k. k.value)) c.in_ok-push.ensures.items
-    ∙ values_more c.loop-entry.keys.items c.of.result es i c.loop-entry.invariant (c.of.ensures ∙ ap number_of_entry (c.entry-item.is ∙ get_or_default es i c.entry-item.result None (omega arith))) (omega arith)
+    ∙ values_more c.loop-entry.keys.items c.of.result es i c.loop-entry.invariant (c.of.ensures ∙ ap number_of_entry (c.entry-item.is ∙ get_or_default es i c.entry-item.result None (omega arith)))
+    (omega arith)
 
 pub returns : goal.returns
 returns c =

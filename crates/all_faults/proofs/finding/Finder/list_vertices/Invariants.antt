@@ -1,7 +1,0 @@
--- All conflicts of the agents before with those after them are listed.
-use Rattle.std.proofs.Common.{◌≡◌}
-use Rattle.all_faults.specs.Code.Known.{key_with, IsListedTo}
-use Rattle.all_faults.proofs.finding.Finder.list_vertices.Given as goal
-
-abbrev pub invariant-loop-agent : goal.invariant-loop-agent
-invariant-loop-agent l = IsListedTo l.self.map.now l.self.plan.now (key_with l.time 1 l.agent 0) l.listing × (l.listing.most ≡ l.initial.listing.most)
