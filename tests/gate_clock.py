@@ -1,7 +1,7 @@
 """How many minutes of a processor the gate takes for each crate: its proof, its tests, its wrong bodies.
 
 While `rt ci` runs, this looks at its provers twice a second. At the end it writes a line for each crate into the gate's log, and
-`tools/gate_table.py` makes the table of docs/PERFORMANCE.md of that log."""
+`bench/gate.py` makes the table of docs/PERFORMANCE.md of that log."""
 import collections
 import os
 import pathlib
@@ -18,10 +18,17 @@ KINDS = ("proof", "tests", "wrong bodies")
 OF_EDIT = "rt-edit-"
 
 
-def parent_and_seconds(stat: str) -> tuple[int, float]:
-    """The parent of a process, and the seconds that it took itself."""
+def seconds_of(process: int) -> float:
+    """The seconds that a process took itself."""
+    stat = (PROC / str(process) / "stat").read_text(encoding="utf-8", errors="replace")
     fields = stat[stat.rindex(")") + 2 :].split()
-    return int(fields[1]), sum(map(int, fields[11:13])) / TICKS
+    return sum(map(int, fields[11:13])) / TICKS
+
+
+def children_of(process: int) -> list[int]:
+    """The processes that the threads of a process started."""
+    tasks = (PROC / str(process) / "task").iterdir()
+    return [int(word) for task in tasks for word in (task / "children").read_text(encoding="ascii").split()]
 
 
 def work_of(words: list[str], folder: str) -> Optional[tuple[str, str]]:
@@ -63,29 +70,20 @@ class GateClock:
 
     def look(self) -> None:
         """Notes what each process has taken so far that a prover is or has started."""
-        parents: dict[int, int] = {}
-        taken: dict[int, float] = {}
-        for entry in PROC.iterdir():
-            if entry.name.isdigit():
-                try:
-                    stat = (entry / "stat").read_text(encoding="utf-8", errors="replace")
-                    parents[int(entry.name)], taken[int(entry.name)] = parent_and_seconds(stat)
-                except (OSError, ValueError, IndexError):
-                    continue
-        for process, seconds in taken.items():
-            found = self.prover_of(process, parents)
-            if found:
-                work, folder = found
-                self.seconds[process, f"{work} {folder}"] = work, seconds
+        self.note(self.root, None)
 
-    def prover_of(self, process: int, parents: dict[int, int]) -> Optional[tuple[tuple[str, str], str]]:
-        """What the nearest prover works on that the process is or was started by, if that is one below the root."""
-        line = [process]
-        while line[-1] in parents and line[-1] != self.root:
-            line.append(parents[line[-1]])
-        if line[-1] != self.root:
-            return None
-        return next(filter(None, map(work_by, line)), None)
+    def note(self, process: int, prover: Optional[tuple[tuple[str, str], str]]) -> None:
+        """Notes what a process and those below it have taken, for the nearest prover."""
+        nearest = work_by(process) or prover
+        try:
+            if nearest:
+                work, folder = nearest
+                self.seconds[process, f"{work} {folder}"] = work, seconds_of(process)
+            below = children_of(process)
+        except (OSError, ValueError, IndexError):
+            return
+        for child in below:
+            self.note(child, nearest)
 
     def stop(self) -> Iterator[str]:
         """The lines for the log: each crate with its minutes, and then all together."""

@@ -8,7 +8,7 @@ use Rattle.model.specs.Timetable.{Timetable}
 use Rattle.agent.specs.Agents.{AgentOn, state_of}
 use Rattle.agent.specs.CountedTape.{counted_state}
 use Rattle.agent.specs.declared.counted_tape.CountedTape.{CountedTape}
-use Rattle.fleet.specs.Rounds.{HaveArrived}
+use Rattle.executor.specs.Endings.{HaveArrived}
 use Rattle.executor.specs.Code.Leading.{Begins}
 use Rattle.executor.specs.Code.Waiting.{HasStopped}
 use Rattle.fleet.specs.Laws.Rules.{done-is, moving-is}

@@ -2,13 +2,16 @@
 use Rattle.std.specs.Prelude.{◌≡◌, ℕ, ◌<◌, List, [], Some, Vec, Result, Ok, Err, slice_get, ⊤}
 use Rattle.model.specs.declared.event.Event.{Event}
 use Rattle.model.specs.declared.version.Version.{Version}
-use Rattle.model.specs.Completion.{IsCompletion, IsUnfinished}
+use Rattle.model.specs.Completion.{HasArrived, IsCompletion, IsUnfinished}
 use Rattle.model.specs.History.{History}
-use Rattle.model.specs.Timetable.{Timetable}
+use Rattle.model.specs.Timetable.{Track, Timetable, track_of}
 use Rattle.depgraph.specs.Rotations.{Turn, AreRotations}
-use Rattle.fleet.specs.Rounds.{HaveArrived}
 use Rattle.executor.specs.declared.complete_fault.CompleteFault.{CompleteFault}
 use Rattle.executor.specs.declared.complete_fault.CompleteFault.TheVariants.{Rotation, OutOfMemory}
+
+-- every agent has finished all its moves, and stands
+abbrev pub HaveArrived : Timetable → History → Type 0
+HaveArrived tt h = (i : ℕ) (track : Track) → track_of tt i ≡ Some track → HasArrived h i track
 
 -- Of all rotations as they are listed, the one with this number has a move that isn't finished, and
 -- none before it has.

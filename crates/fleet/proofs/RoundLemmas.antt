@@ -1,183 +1,174 @@
 -- Every round brings a fleet on, where there is no rotation.
-use Rattle.std.proofs.Common.{◌≡◌, ℕ, zero, suc, ◌+◌, ◌*◌, ◌<◌, ◌≤◌, eqb, cond, Bool, true, false}
-use Rattle.std.proofs.Common.{List, [], ◌∷◌, ◌++◌, length, nat_lt, Some, None, inl, inr, refl, sym}
-use Rattle.std.proofs.Common.{ap, subst, ◌∙◌, arith, append_assoc}
-use Rattle.std.specs.Prelude.{◌⊎◌, ◌&&◌, ◌||◌, Option, MatchOption, slice_get, sum_by}
-use Rattle.std.proofs.lemmas.Bool.{cases_Bool, cond-true, cond-false, ltb-true, ltb-false, le-ltb, eq-eqb, ne_eqb, false≢true}
+use Rattle.std.proofs.Common.{◌≡◌, ℕ, zero, suc, ◌+◌, ◌*◌, ◌/◌, ◌%◌, ◌<◌, ◌≤◌, Bool, true, false}
+use Rattle.std.proofs.Common.{List, [], ◌∷◌, ◌++◌, length, nat_lt, get_or, Some, None, Result, Err, inl, inr, refl, sym}
+use Rattle.std.proofs.Common.{ap, subst, ◌∙◌, arith}
+use Rattle.std.specs.Prelude.{◌==◌, ◌⊎◌, Option, MatchOption, if◌then◌else◌, slice_get, sum_by}
+use Rattle.std.specs.List.{AllByRecursion}
+use Rattle.std.proofs.lemmas.Bool.{cases_Bool, cond-true, cond-false, lt-ltb, ltb-true, ltb-false, le-ltb, ne_eqb, false≢true}
 use Rattle.std.proofs.lemmas.List.Sums.{sum_by-cons}
 use Rattle.std.proofs.lemmas.Option.{same_Some, none-some, slice_get-get_or, slice_get_within}
 use Rattle.grid.specs.declared.cell.Cell.{Cell}
-use Rattle.model.specs.declared.event.Event.{Event}
-use Rattle.model.specs.declared.event.Event.TheVariants.{Start, Finish, Say, Deliver, Restart, Tear}
-use Rattle.model.specs.declared.version.Version.{Version}
-use Rattle.model.specs.declared.why.Why.TheVariants.{Broken, AlreadyMoving, AtEnd, Waits, NotMoving}
-use Rattle.model.specs.Completion.{HasArrived}
 use Rattle.model.specs.Dependency.{Need, need, IsMet}
-use Rattle.model.specs.History.{Answer, Happening, History, moving, arrived, refused, is_store_failed, broken_after, is_broken, is_begun, is_ended, armed_of, kept_starts, done, is_moving, known}
-use Rattle.model.specs.Rules.{path_cell, stored, unless_waiting, IsRun}
 use Rattle.model.specs.Timetable.{Track, Timetable, moves, track_of, IsConflictFree, IsSwapFree}
 use Rattle.model.specs.Laws.Rounds.{first_that}
-use Rattle.model.specs.Laws.Runs.{answer-is, progress}
 use Rattle.model.specs.Laws.Stuck.{HasRotation, stuck}
-use Rattle.fleet.specs.Rounds.{is_restart, IsCalm, Occurs, IsRound, HasRounds, HaveArrived}
+use Rattle.agent.specs.Counters.{known_in}
+use Rattle.agent.specs.States.{State, is_on_the_way, finished_moves, next_cell, waits_for, start_refusal, finish_refusal, Answers}
+use Rattle.agent.specs.declared.refusal.Refusal.{Refusal}
+use Rattle.agent.specs.declared.refusal.Refusal.TheVariants.{Broken, AlreadyMoving, AtEnd, Waits, NotMoving, StoreFailed}
+use Rattle.fleet.specs.Deeds.{Deed, opens, starts, finishes, says, tells, hears, holds, looks, ends, stops, ends_starting, ends_finishing, Does, DoesAll}
+use Rattle.fleet.specs.Fleets.{Log, deeds_of, fresh, IsFleet}
+use Rattle.fleet.specs.Laws.Leading.{leads-apart}
+use Rattle.fleet.specs.Rounds.{is_calm, AreLedFrom, IsRound, HasRounds, HaveAllArrived}
+use Rattle.fleet.proofs.KnowsLemmas.{Finished}
+use Rattle.fleet.proofs.LeadingOn.{heard-broken, records-grow}
+use Rattle.fleet.proofs.WithinLemmas.{stays}
 
--- ---- beginnings of a history
+-- ---- deeds one behind the other
 
--- what is stored of an agent's moves
-abbrev pub records : History → ℕ → ℕ
-records h i = kept_starts h i + done h i
+all-grow : (table : Timetable) (i : ℕ) (track : Track) (old new : State) (deeds : List Deed) → DoesAll table i track old deeds new → old.records ≤ new.records
+all-grow table i track old new [] leads = (let e = ap (λ s. s.records) leads in omega (arith, e))
+all-grow table i track old new (deed ∷ deeds) leads =
+    let first = records-grow table i track old leads.0 deed leads.1 in
+    let rest = all-grow table i track leads.0 new deeds leads.2 in
+    omega (arith, first, rest)
 
-pub done-later : (later earlier : History) (i : ℕ) → done earlier i ≤ done (later ++ earlier) i
-done-later [] earlier i = omega arith
-done-later (now ∷ later) earlier i = (let before = done-later later earlier i in omega (arith, before))
+all-within : (table : Timetable) (i : ℕ) (track : Track) (old new : State) (deeds : List Deed) → old.records ≤ 2 * moves track → DoesAll table i track old deeds new
+    → new.records ≤ 2 * moves track
+all-within table i track old new [] within leads = (let e = ap (λ s. s.records) leads in omega (arith, e, within))
+all-within table i track old new (deed ∷ deeds) within leads =
+    all-within table i track leads.0 new deeds (stays table i track old within deed leads.0 leads.1) leads.2
 
-kept-later : (later earlier : History) (i : ℕ) → kept_starts earlier i ≤ kept_starts (later ++ earlier) i
-kept-later [] earlier i = omega arith
-kept-later (now ∷ later) earlier i = (let before = kept-later later earlier i in omega (arith, before))
-
-run-before : (v : Version) (table : Timetable) (later earlier : History) → IsRun v table (later ++ earlier) → IsRun v table earlier
-run-before v table [] earlier run = run
-run-before v table (now ∷ later) earlier run = run-before v table later earlier run.1
+all-apart : (P : Deed → Type 0) (xs ys : List Deed) → AllByRecursion P (xs ++ ys) → AllByRecursion P xs × AllByRecursion P ys
+all-apart P [] ys all = (tt, all)
+all-apart P (x ∷ xs) ys all = (let rest = all-apart P xs ys all.1 in ((all.0, rest.0), rest.1))
 
 -- ---- calm
 
-either_false : (a b : Bool) → (a || b) ≡ false → b ≡ false
-either_false true b neither = absurd (false≢true (sym neither))
-either_false false b neither = neither
+abbrev Calm : Deed → Type 0
+Calm deed = is_calm deed ≡ true
 
-calm-now : (later earlier : History) (now : Happening) → IsCalm (later ++ now ∷ earlier) → is_store_failed now.answer ≡ false
-calm-now [] earlier now calm = either_false (is_restart now.event) (is_store_failed now.answer) calm.0
-calm-now (other ∷ later) earlier now calm = calm-now later earlier now calm.1
+-- a write that is tried and doesn't fail stores its record
+stores-or : (o : Option Refusal) (old new : State) (c : Cell) (answer : Result Cell Refusal) → Answers o old new c answer → (answer ≡ Err StoreFailed → ⊥)
+    → (new ≡ old) ⊎ ((o ≡ None) × (new.records ≡ old.records + 1) × (new.broken ≡ old.broken))
+stores-or (Some why) old new c answer refuses fine = inl refuses.1
+stores-or None old new c answer stores fine = elim stores.outcome [
+  | inl good ↦ inr (refl, good.1, good.2)
+  | inr bad ↦ absurd (fine bad.0)
+]
 
-calm-before : (later earlier : History) (now : Happening) → IsCalm (later ++ now ∷ earlier) → IsCalm earlier
-calm-before [] earlier now calm = calm.1
-calm-before (other ∷ later) earlier now calm = calm-before later earlier now calm.1
+calm-start : (answer : Result Cell Refusal) → Calm (starts answer) → answer ≡ Err StoreFailed → ⊥
+calm-start answer calm failed = false≢true (sym (ap (λ a. is_calm (starts a)) failed) ∙ calm)
 
-never_if : (b : Bool) (x : Bool) → x ≡ false → (cond (b && x) true false) ≡ false
-never_if true x fine = ap (λ y. cond y true false) fine
-never_if false x fine = refl
+calm-finish : (answer : Result Cell Refusal) → Calm (finishes answer) → answer ≡ Err StoreFailed → ⊥
+calm-finish answer calm failed = false≢true (sym (ap (λ a. is_calm (finishes a)) failed) ∙ calm)
 
-either_way : (b : Bool) → (cond b false false) ≡ false
-either_way true = refl
-either_way false = refl
+broken-same : (old new : State) → new ≡ old → old.broken ≡ false → new.broken ≡ false
+broken-same old new same whole = ap (λ s. s.broken) same ∙ whole
 
-still-whole : (e : Event) (r : Answer) (i : ℕ) → is_store_failed r ≡ false → broken_after e r i false ≡ false
-still-whole (Start j) r i fine = never_if (eqb j i) (is_store_failed r) fine
-still-whole (Finish j) r i fine = never_if (eqb j i) (is_store_failed r) fine
-still-whole (Restart j) r i fine = either_way _
-still-whole (Say j) r i fine = refl
-still-whole (Deliver j m) r i fine = refl
-still-whole (Tear j n) r i fine = refl
+written-whole : (o : Option Refusal) (old new : State) (c : Cell) (answer : Result Cell Refusal) → Answers o old new c answer → (answer ≡ Err StoreFailed → ⊥) → old.broken ≡ false
+    → new.broken ≡ false
+written-whole o old new c answer gives fine whole = elim (stores-or o old new c answer gives fine) [
+  | inl same ↦ broken-same old new same whole
+  | inr stored ↦ stored.2 ∙ whole
+]
 
-calm-whole : (during before : History) (i : ℕ) → IsCalm during → is_broken before i ≡ false → is_broken (during ++ before) i ≡ false
-calm-whole [] before i calm whole = whole
-calm-whole (now ∷ during) before i calm whole =
-    ap (broken_after now.event now.answer i) (calm-whole during before i calm.1 whole)
-    ∙ still-whole now.event now.answer i (either_false (is_restart now.event) (is_store_failed now.answer) calm.0)
+calm-whole : (table : Timetable) (i : ℕ) (track : Track) (old new : State) (deed : Deed) → Calm deed → Does table i track old deed new → old.broken ≡ false → new.broken ≡ false
+calm-whole table i track old new (opens what count) calm does whole = absurd (false≢true calm)
+calm-whole table i track old new (starts answer) calm does whole = written-whole _ old new _ answer does (calm-start answer calm) whole
+calm-whole table i track old new (finishes answer) calm does whole = written-whole _ old new _ answer does (calm-finish answer calm) whole
+calm-whole table i track old new (says answer) calm does whole = broken-same old new does.1 whole
+calm-whole table i track old new (tells answer) calm does whole = broken-same old new does.1 whole
+calm-whole table i track old new (hears bytes answer) calm does whole = heard-broken table old new bytes answer does ∙ whole
+calm-whole table i track old new (holds what count) calm does whole = broken-same old new does.2 whole
+calm-whole table i track old new (looks begun most count) calm does whole = broken-same old new does.2 whole
+calm-whole table i track old new ends calm does whole = broken-same old new does whole
+calm-whole table i track old new stops calm does whole = broken-same old new does whole
+calm-whole table i track old new ends_starting calm does whole = absurd (false≢true calm)
+calm-whole table i track old new ends_finishing calm does whole = absurd (false≢true calm)
 
--- ---- what an agent that is asked does
+all-whole : (table : Timetable) (i : ℕ) (track : Track) (old new : State) (deeds : List Deed) → AllByRecursion Calm deeds → DoesAll table i track old deeds new → old.broken ≡ false
+    → new.broken ≡ false
+all-whole table i track old new [] calm leads whole = broken-same old new leads whole
+all-whole table i track old new (deed ∷ deeds) calm leads whole =
+    all-whole table i track leads.0 new deeds calm.1 leads.2 (calm-whole table i track old leads.0 deed calm.0 leads.1 whole)
 
-abbrev one_if : Bool → ℕ
-one_if b = cond b 1 0
+-- ---- in a round that stores nothing of an agent, it can't go on
 
-fails-if : (a : Option ℕ) (r : Answer) → is_store_failed (stored a r) ≡ false → stored a r ≡ r
-fails-if None r fine = refl
-fails-if (Some n) r fine = absurd (false≢true (sym fine))
+-- The deed of an agent at which it would have gone on, where nothing is stored.
+record AtDeed (table : Timetable) (i : ℕ) (track : Track) (old : State) (earlier : List Deed) (deed : Deed) : Type 0 where
+  before : State
+  leads : DoesAll table i track old earlier before
+  after : State
+  does : Does table i track before deed after
+  whole : before.broken ≡ false
+  calm : Calm deed
+  records : before.records ≡ old.records
+  stays_so : after.records ≡ old.records
 
-module _ (v : Version) (table : Timetable) (before during : History) (run : IsRun v table (during ++ before)) (round : IsRound v table before during) (i : ℕ) (track : Track)
-    (there : track_of table i ≡ Some track) (same : records (during ++ before) i ≡ records before i) where
-  -- nothing was stored of the agent's moves up to any event of the round
-  module _ (event : Event) (occurs : Occurs event during) where
-    abbrev g : History
-    g = occurs.earlier ++ before
+at-deed : (table : Timetable) (i : ℕ) (track : Track) (old new : State) (deeds earlier later : List Deed) (deed : Deed) → deeds ≡ earlier ++ deed ∷ later → DoesAll table i track old deeds new
+    → AllByRecursion Calm deeds → old.broken ≡ false → new.records ≡ old.records → AtDeed table i track old earlier deed
+at-deed table i track old new deeds earlier later deed is leads calm whole same =
+    let parts = leads-apart table i track old new earlier (deed ∷ later) (subst (λ l. DoesAll table i track old l new) is leads) in
+    let calms = all-apart Calm earlier (deed ∷ later) (subst (AllByRecursion Calm) is calm) in
+    let rest = parts.2 in
+    let first = all-grow table i track old parts.0 earlier parts.1 in
+    let second = records-grow table i track parts.0 rest.0 deed rest.1 in
+    let third = all-grow table i track rest.0 new later rest.2 in
+    record {
+      before = parts.0;
+      leads = parts.1;
+      after = rest.0;
+      does = rest.1;
+      whole = all-whole table i track old parts.0 earlier calms.0 parts.1 whole;
+      calm = calms.1.0;
+      records = omega (arith, first, second, third, same);
+      stays_so = omega (arith, first, second, third, same);
+    }
 
-    abbrev now : Happening
-    now = record { event = event; answer = occurs.answer }
+-- where nothing refuses a write and it doesn't fail, something is stored
+goes-on-if : (first after : State) (c : Cell) (answer : Result Cell Refusal) → Answers None first after c answer → (answer ≡ Err StoreFailed → ⊥) → after.records ≡ first.records → ⊥
+goes-on-if first after c answer stores fine still = elim stores.outcome [
+  | inl good ↦ (let more = good.1 in omega (arith, more, still))
+  | inr bad ↦ fine bad.0
+]
 
-    whole-is : during ++ before ≡ occurs.later ++ (now ∷ g)
-    whole-is = ap (λ l. l ++ before) occurs.when ∙ append_assoc occurs.later (now ∷ occurs.earlier) before
+module _ (table : Timetable) (old new : ℕ → State) (during : Log) (round : IsRound table old during new) (i : ℕ) (track : Track) (there : track_of table i ≡ Some track)
+    (same : (new i).records ≡ (old i).records) where
+  not-moving : is_on_the_way (old i) ≡ true → ⊥
+  not-moving way =
+      let asked = round.finishes i track there way in
+      let at = at-deed table i track (old i) (new i) (deeds_of during i) asked.earlier asked.later (finishes asked.answer) asked.when (round.led i track there) (round.calm i)
+      (round.whole i track there) same in
+      let still_way : is_on_the_way at.before ≡ true = ap (λ n. n % 2 == 1) at.records ∙ way in
+      let none : finish_refusal at.before ≡ None =
+      cond-false at.before.broken (Some Broken) (if is_on_the_way at.before then None else Some NotMoving) at.whole ∙ ap (λ b. if b then None else Some NotMoving) still_way in
+      let c = next_cell track at.before in
+      goes-on-if at.before at.after c asked.answer (subst (λ o. Answers o at.before at.after c asked.answer) none at.does) (calm-finish asked.answer at.calm)
+      (at.stays_so ∙ sym at.records)
 
-    run-now : IsRun v table (now ∷ g)
-    run-now = run-before v table occurs.later (now ∷ g) (subst (IsRun v table) whole-is run)
+  none-waits : (s : State) (o : Option Need) → MatchOption o (Unit {0}) (λ n. finished_moves (old n.agent) ≤ known_in s.heard n.agent) → IsMet (Finished old) o → waits_for s.heard o ≡ None
+  none-waits s None heard met = refl
+  none-waits s (Some n) heard met =
+      cond-false (nat_lt (known_in s.heard n.agent) n.count) (Some (Waits n.agent n.count)) None (le-ltb (known_in s.heard n.agent) n.count (omega (arith, heard, met)))
 
-    calm-there : IsCalm (occurs.later ++ now ∷ occurs.earlier)
-    calm-there = subst IsCalm occurs.when round.calm
-
-    whole : is_broken g i ≡ false
-    whole = calm-whole occurs.earlier before i (calm-before occurs.later occurs.earlier now calm-there) (round.whole i)
-
-    fine : is_store_failed occurs.answer ≡ false
-    fine = calm-now occurs.later occurs.earlier now calm-there
-
-    counts : (done g i ≡ done before i) × (kept_starts g i ≡ kept_starts before i) × (done (now ∷ g) i ≡ done before i) × (kept_starts (now ∷ g) i ≡ kept_starts before i)
-    counts =
-        let d0 = done-later occurs.earlier before i in
-        let k0 = kept-later occurs.earlier before i in
-        let d1 = done-later (now ∷ []) g i in
-        let k1 = kept-later (now ∷ []) g i in
-        let d2 = done-later occurs.later (now ∷ g) i in
-        let k2 = kept-later occurs.later (now ∷ g) i in
-        let all : records (occurs.later ++ (now ∷ g)) i ≡ records before i = ap (λ l. records l i) (sym whole-is) ∙ same in
-        (omega (arith, d0, k0, d1, k1, d2, k2, all), omega (arith, d0, k0, d1, k1, d2, k2, all), omega (arith, d0, k0, d1, k1, d2, k2, all), omega (arith, d0, k0, d1, k1, d2, k2, all))
-
-    moving-same : is_moving g i ≡ is_moving before i
-    moving-same = ap (λ k. eqb k (done g i + 1)) counts.1 ∙ ap (λ d. eqb (kept_starts before i) (d + 1)) counts.0
-
-  -- an agent that is moving would arrive
-  not-moving : is_moving before i ≡ true → ⊥
-  not-moving moves_now =
-      let occurs = round.finishes i track there moves_now in
-      let h = g (Finish i) occurs in
-      let count = counts (Finish i) occurs in
-      let c = path_cell track (done h i + 1) in
-      let rule : occurs.answer ≡ stored (armed_of h i) (arrived c)
-      = (run-now (Finish i) occurs).0 ∙ answer-is v table h (Finish i) track there
-      ∙ cond-false (is_broken h i) (refused Broken) _ (whole (Finish i) occurs)
-      ∙ cond-true (is_moving h i) _ (refused NotMoving) (moving-same (Finish i) occurs ∙ moves_now) in
-      let fails = ap is_store_failed (sym rule) ∙ fine (Finish i) occurs in
-      let ended : is_ended occurs.answer (armed_of h i) ≡ true = ap (λ r. is_ended r (armed_of h i)) (rule ∙ fails-if (armed_of h i) (arrived c) fails) in
-      let more : one_if (eqb i i && is_ended occurs.answer (armed_of h i)) ≡ 1
-      = ap (λ b. one_if (b && is_ended occurs.answer (armed_of h i))) (eq-eqb i i refl) ∙ ap one_if ended in
-      let first = count.0 in
-      let last = count.2 in
-      omega (arith, first, last, more)
-
-  unmet-if : (knows finished : ℕ → ℕ) (o : Option Need) (a : Option ℕ) (c : Cell) → MatchOption o (Unit {0}) (λ n. finished n.agent ≤ knows n.agent)
-      → is_store_failed (unless_waiting knows o (stored a (moving c))) ≡ false → is_begun (unless_waiting knows o (stored a (moving c))) a ≡ false → IsMet finished o → ⊥
-  unmet-if knows finished None a c heard fails unbegun met = absurd (false≢true (sym unbegun ∙ ap (λ r. is_begun r a) (fails-if a (moving c) fails)))
-  unmet-if knows finished (Some n) a c heard fails unbegun met =
-      let none : nat_lt (knows n.agent) n.count ≡ false = le-ltb (knows n.agent) n.count (omega (arith, heard, met)) in
-      let goes = cond-false (nat_lt (knows n.agent) n.count) (refused (Waits n.agent n.count)) (stored a (moving c)) none in
-      let fine = ap is_store_failed (sym goes) ∙ fails in
-      absurd (false≢true (sym unbegun ∙ ap (λ r. is_begun r a) (goes ∙ fails-if a (moving c) fine)))
-
-  -- an agent that stands, has a move left and waits for nothing that isn't finished would start
-  not-ready : is_moving before i ≡ false → done before i < moves track → IsMet (done before) (need table i track (done before i)) → ⊥
+  not-ready : is_on_the_way (old i) ≡ false → finished_moves (old i) < moves track → IsMet (Finished old) (need table i track (finished_moves (old i))) → ⊥
   not-ready stands left met =
       let tried = round.starts i track there stands left in
-      let occurs = tried.tries in
-      let h = g (Start i) occurs in
-      let count = counts (Start i) occurs in
-      let first = count.0 in
-      let kept = count.1 in
-      let last = count.3 in
-      let c = path_cell track (done h i + 1) in
-      let rule : occurs.answer ≡ unless_waiting (known v table h i) (need table i track (done h i)) (stored (armed_of h i) (moving c))
-      = (run-now (Start i) occurs).0 ∙ answer-is v table h (Start i) track there
-      ∙ cond-false (is_broken h i) (refused Broken) _ (whole (Start i) occurs)
-      ∙ cond-false (is_moving h i) (refused AlreadyMoving) _ (moving-same (Start i) occurs ∙ stands)
-      ∙ cond-false (eqb (done h i) (moves track)) (refused AtEnd) _ (ne_eqb (done h i) (moves track) (λ e. omega (arith, e, left, first))) in
-      let unbegun : is_begun occurs.answer (armed_of h i) ≡ false = elim (cases_Bool (is_begun occurs.answer (armed_of h i))) [
-        | inl begun ↦ absurd (
-            let more : one_if (eqb i i && is_begun occurs.answer (armed_of h i)) ≡ 1
-            = ap (λ b. one_if (b && is_begun occurs.answer (armed_of h i))) (eq-eqb i i refl) ∙ ap one_if begun in
-            omega (arith, kept, last, more))
-        | inr none ↦ none
-      ] in
-      let here = subst (λ k. MatchOption (need table i track k) (Unit {0}) (λ n. done before n.agent ≤ known v table h i n.agent)) (sym first) tried.has_heard in
-      unmet-if (known v table h i) (done before) (need table i track (done h i)) (armed_of h i) c here
-      (ap is_store_failed (sym rule) ∙ fine (Start i) occurs) (ap (λ r. is_begun r (armed_of h i)) (sym rule) ∙ unbegun)
-      (subst (λ k. IsMet (done before) (need table i track k)) (sym first) met)
+      let at = at-deed table i track (old i) (new i) (deeds_of during i) tried.earlier tried.later (starts tried.answer) tried.when (round.led i track there) (round.calm i)
+      (round.whole i track there) same in
+      let r = at.records in
+      let finished : finished_moves at.before ≡ finished_moves (old i) = ap (λ n. n / 2) r in
+      let still_stands : is_on_the_way at.before ≡ false = ap (λ n. n % 2 == 1) r ∙ stands in
+      let free = none-waits at.before (need table i track (finished_moves (old i))) (tried.has_heard at.before at.leads) met in
+      let none : start_refusal table i track at.before ≡ None =
+      cond-false at.before.broken (Some Broken) _ at.whole
+      ∙ cond-false (is_on_the_way at.before) (Some AlreadyMoving) _ still_stands
+      ∙ cond-false (finished_moves at.before == moves track) (Some AtEnd) _ (ne_eqb (finished_moves at.before) (moves track) (λ e. omega (arith, e, left, finished)))
+      ∙ ap (λ k. waits_for at.before.heard (need table i track k)) finished ∙ free in
+      let c = next_cell track at.before in
+      goes-on-if at.before at.after c tried.answer (subst (λ o. Answers o at.before at.after c tried.answer) none at.does) (calm-start tried.answer at.calm)
+      (at.stays_so ∙ sym r)
 
 -- ---- a round
 
@@ -189,38 +180,39 @@ abbrev no_track : Track
 no_track = record { start = record { x = 0; y = 0 }; later = [] }
 
 -- something more is stored of some agent's moves
-abbrev pub StoresMore : Timetable → History → History → Type 0
-StoresMore table old new = (i : ℕ) × (i < length table.tracks) × (records old i < records new i)
+abbrev StoresMore : Timetable → (ℕ → State) → (ℕ → State) → Type 0
+StoresMore table old new = (i : ℕ) × (i < length table.tracks) × ((old i).records < (new i).records)
 
-arrived-if : (v : Version) (table : Timetable) (h : History) (i : ℕ) (track : Track) → IsRun v table h → track_of table i ≡ Some track → moves track ≤ done h i → HasArrived h i track
-arrived-if v table h i track run there all =
-    let went = progress v table h i track there run in
-    let low = went.low in
-    let limit = went.limit in
-    record { all = omega (arith, low, limit, all); still = ne_eqb (kept_starts h i) (done h i + 1) (λ e. omega (arith, e, limit, all)) }
+abbrev AllWithin : Timetable → (ℕ → State) → Type 0
+AllWithin table states = (i : ℕ) (track : Track) → track_of table i ≡ Some track → (states i).records ≤ 2 * moves track
 
-module _ (v : Version) (table : Timetable) (free : IsConflictFree table) (unswapped : IsSwapFree table) (no_rotation : HasRotation table → ⊥) where
-  pub comes-on : (before during : History) → IsRun v table (during ++ before) → IsRound v table before during → HaveArrived table before ⊎ StoresMore table before (during ++ before)
-  comes-on before during run round = elim (first_that (length table.tracks) (λ k. nat_lt (records before k) (records (during ++ before) k))) [
-    | inl found ↦ inr (found.0, found.1, ltb-true (records before found.0) (records (during ++ before) found.0) found.2)
+-- whoever has finished all moves stands
+arrived-if : (records most : ℕ) → records ≤ 2 * most → most ≤ records / 2 → records ≡ 2 * most
+arrived-if records most within all = grind (arith, within, all)
+
+module _ (table : Timetable) (free : IsConflictFree table) (unswapped : IsSwapFree table) (no_rotation : HasRotation table → ⊥) where
+  pub comes-on : (old new : ℕ → State) (during : Log) → AllWithin table old → IsRound table old during new → HaveAllArrived table old ⊎ StoresMore table old new
+  comes-on old new during within round = elim (first_that (length table.tracks) (λ k. nat_lt (old k).records (new k).records)) [
+    | inl found ↦ inr (found.0, found.1, ltb-true (old found.0).records (new found.0).records found.2)
     | inr none ↦
-        let same : (k : ℕ) → k < length table.tracks → records (during ++ before) k ≡ records before k
-        = λ k within. (let most = ltb-false (records before k) (records (during ++ before) k) (none k within) in
-        let d = done-later during before k in let s = kept-later during before k in omega (arith, most, d, s)) in
-        elim (first_that (length table.tracks) (λ k. nat_lt (done before k) (moves_of (track_of table k)))) [
+        let same : (k : ℕ) (track : Track) → track_of table k ≡ Some track → (new k).records ≡ (old k).records
+        = λ k track there. (let most = ltb-false (old k).records (new k).records (none k (slice_get_within table.tracks k track there)) in
+        let more = all-grow table k track (old k) (new k) (deeds_of during k) (round.led k track there) in omega (arith, most, more)) in
+        elim (first_that (length table.tracks) (λ k. nat_lt (finished_moves (old k)) (moves_of (track_of table k)))) [
           | inr all ↦ inl (λ i track there.
-              arrived-if v table before i track (run-before v table during before run) there
-              (ltb-false (done before i) (moves track) (subst (λ o. nat_lt (done before i) (moves_of o) ≡ false) there (all i (slice_get_within table.tracks i track there)))))
+              arrived-if (old i).records (moves track) (within i track there)
+              (ltb-false (finished_moves (old i)) (moves track)
+              (subst (λ o. nat_lt (finished_moves (old i)) (moves_of o) ≡ false) there (all i (slice_get_within table.tracks i track there)))))
           | inl left ↦
               let there = slice_get-get_or table.tracks left.0 no_track left.1 in
-              let fewer = ltb-true (done before left.0) _ (subst (λ o. nat_lt (done before left.0) (moves_of o) ≡ true) there left.2) in
-              absurd (elim (stuck table (done before) free unswapped left.0 (_, there, fewer)) [
+              let fewer = ltb-true (finished_moves (old left.0)) _ (subst (λ o. nat_lt (finished_moves (old left.0)) (moves_of o) ≡ true) there left.2) in
+              absurd (elim (stuck table (Finished old) free unswapped left.0 (_, there, fewer)) [
                 | inr rotation ↦ no_rotation rotation
                 | inl can ↦
-                    let own = same can.agent (slice_get_within table.tracks can.agent can.track can.there) in
-                    elim (cases_Bool (is_moving before can.agent)) [
-                      | inl moves_now ↦ not-moving v table before during run round can.agent can.track can.there own moves_now
-                      | inr stands ↦ not-ready v table before during run round can.agent can.track can.there own stands can.left can.met
+                    let own = same can.agent can.track can.there in
+                    elim (cases_Bool (is_on_the_way (old can.agent))) [
+                      | inl moves_now ↦ not-moving table old new during round can.agent can.track can.there own moves_now
+                      | inr stands ↦ not-ready table old new during round can.agent can.track can.there own stands can.left can.met
                     ]
               ])
         ]
@@ -282,56 +274,82 @@ total-full (head ∷ tracks) first f within full k track there =
         (let place : first ≡ first + zero = omega arith in subst (λ n. 2 * moves track ≤ f n) place (subst (λ t. 2 * moves t ≤ f first) (same_Some head track at) own))
     by (suc l) at own others = (let place : (first + 1) + l ≡ first + suc l = omega arith in subst (λ n. 2 * moves track ≤ f n) place (others l at))
 
-module _ (v : Version) (table : Timetable) (free : IsConflictFree table) (unswapped : IsSwapFree table) (no_rotation : HasRotation table → ⊥) where
-  arrived-later : (later earlier : History) → IsRun v table (later ++ earlier) → HaveArrived table earlier → HaveArrived table (later ++ earlier)
-  arrived-later later earlier run arrive i track there =
-      arrived-if v table (later ++ earlier) i track run there (let all = (arrive i track there).all in let more = done-later later earlier i in omega (arith, all, more))
+-- what is stored of an agent's moves; nothing of one that there isn't
+abbrev stored_of : Timetable → (ℕ → State) → ℕ → ℕ
+stored_of table states i = if nat_lt i (length table.tracks) then (states i).records else 0
 
-  records-later : (later earlier : History) (i : ℕ) → records earlier i ≤ records (later ++ earlier) i
-  records-later later earlier i = (let d = done-later later earlier i in let k = kept-later later earlier i in omega (arith, d, k))
+module _ (table : Timetable) (free : IsConflictFree table) (unswapped : IsSwapFree table) (no_rotation : HasRotation table → ⊥) where
+  is-stored : (states : ℕ → State) (i : ℕ) (track : Track) → track_of table i ≡ Some track → stored_of table states i ≡ (states i).records
+  is-stored states i track there = cond-true (nat_lt i (length table.tracks)) _ _ (lt-ltb i (length table.tracks) (slice_get_within table.tracks i track there))
 
-  abbrev stored_in_all : History → ℕ
-  stored_in_all h = total table.tracks 0 (records h)
+  stored-later : (old new : ℕ → State) (log : Log) → AreLedFrom table old log new → (k : ℕ) → stored_of table old k ≤ stored_of table new k
+  stored-later old new log led k = by (nat_lt k (length table.tracks)) refl where
+    by : (b : Bool) → nat_lt k (length table.tracks) ≡ b → (if b then (old k).records else 0) ≤ (if b then (new k).records else 0)
+    by false is = omega arith
+    by true is =
+        let track : Track = get_or table.tracks k no_track in
+        let there : track_of table k ≡ Some track = slice_get-get_or table.tracks k no_track (ltb-true k (length table.tracks) is) in
+        all-grow table k track (old k) (new k) (deeds_of log k) (led k track there)
 
-  counted : (n : ℕ) (h : History) → IsRun v table h → HasRounds v table n h → HaveArrived table h ⊎ (n ≤ stored_in_all h)
-  counted zero h run rounds = inr (omega arith)
-  counted (suc n) h run rounds =
-      let before = rounds.0 in
-      let during = rounds.1 in
-      let after = rounds.2 in
-      let whole = subst (IsRun v table) rounds.3 run in
-      let run_during = run-before v table after (during ++ before) whole in
-      let run_before = run-before v table during before run_during in
-      let back = λ (arrive : HaveArrived table (after ++ (during ++ before))). subst (HaveArrived table) (sym rounds.3) arrive in
-      elim (counted n before run_before rounds.5) [
-        | inl arrive ↦ inl (back (arrived-later after (during ++ before) whole (arrived-later during before run_during arrive)))
-        | inr some ↦ elim (comes-on v table free unswapped no_rotation before during run_during rounds.4) [
-          | inl arrive ↦ inl (back (arrived-later after (during ++ before) whole (arrived-later during before run_during arrive)))
+  abbrev stored_in_all : (ℕ → State) → ℕ
+  stored_in_all states = total table.tracks 0 (stored_of table states)
+
+  -- nobody had more before
+  within-before : (old new : ℕ → State) (log : Log) → AreLedFrom table old log new → AllWithin table new → AllWithin table old
+  within-before old new log led within i track there =
+      let more = all-grow table i track (old i) (new i) (deeds_of log i) (led i track there) in
+      let most = within i track there in
+      omega (arith, more, most)
+
+  arrived-later : (old new : ℕ → State) (log : Log) → AreLedFrom table old log new → AllWithin table new → HaveAllArrived table old → HaveAllArrived table new
+  arrived-later old new log led within arrive i track there =
+      let more = all-grow table i track (old i) (new i) (deeds_of log i) (led i track there) in
+      let most = within i track there in
+      let all = arrive i track there in
+      omega (arith, more, most, all)
+
+  counted : (n : ℕ) (states : ℕ → State) → AllWithin table states → HasRounds table n states → HaveAllArrived table states ⊎ (n ≤ stored_in_all states)
+  counted zero states within rounds = inr (omega arith)
+  counted (suc n) states within (old, new, during, after, round, led, rounds) =
+      let within_new = within-before new states after led within in
+      let within_old = within-before old new during round.led within_new in
+      elim (counted n old within_old rounds) [
+        | inl arrive ↦ inl (arrived-later new states after led within (arrived-later old new during round.led within_new arrive))
+        | inr some ↦ elim (comes-on table free unswapped no_rotation old new during within_old round) [
+          | inl arrive ↦ inl (arrived-later new states after led within (arrived-later old new during round.led within_new arrive))
           | inr more ↦
               let place : more.0 ≡ 0 + more.0 = omega arith in
-              let less = total-less table.tracks 0 more.0 (records before) (records (during ++ before)) (records-later during before) more.1
-              (subst (λ k. records before k < records (during ++ before) k) place more.2) in
-              let later = total-rise table.tracks 0 (records (during ++ before)) (records (after ++ (during ++ before))) (records-later after (during ++ before)) in
-              inr (subst (λ l. suc n ≤ stored_in_all l) (sym rounds.3) (omega (arith, some, less, later)))
+              let there = slice_get-get_or table.tracks more.0 no_track more.1 in
+              let first = is-stored old more.0 _ there in
+              let second = is-stored new more.0 _ there in
+              let rise = more.2 in
+              let less : stored_of table old more.0 < stored_of table new more.0 = omega (arith, first, second, rise) in
+              let grown = total-less table.tracks 0 more.0 (stored_of table old) (stored_of table new) (stored-later old new during round.led) more.1
+              (subst (λ k. stored_of table old k < stored_of table new k) place less) in
+              let later = total-rise table.tracks 0 (stored_of table new) (stored_of table states) (stored-later new states after led) in
+              inr (omega (arith, some, grown, later))
         ]
       ]
 
-  within : (h : History) → IsRun v table h → AreWithin table.tracks 0 (records h)
-  within h run k track there =
-      let went = progress v table h k track there run in
-      let low = went.low in
-      let limit = went.limit in
+  within-all : (states : ℕ → State) → AllWithin table states → AreWithin table.tracks 0 (stored_of table states)
+  within-all states within k track there =
       let place : 0 + k ≡ k = omega arith in
-      subst (λ n. records h n ≤ 2 * moves track) (sym place) (omega (arith, low, limit))
+      let is = is-stored states k track there in
+      let most = within k track there in
+      subst (λ n. stored_of table states n ≤ 2 * moves track) (sym place) (omega (arith, is, most))
 
-  pub ends-in-time : (n : ℕ) (h : History) → IsRun v table h → HasRounds v table n h → 2 * sum_by moves table.tracks ≤ n → HaveArrived table h
-  ends-in-time n h run rounds enough = elim (counted n h run rounds) [
+  pub ends-in-time : (n : ℕ) (states : ℕ → State) → AllWithin table states → HasRounds table n states → 2 * sum_by moves table.tracks ≤ n → HaveAllArrived table states
+  ends-in-time n states within rounds enough = elim (counted n states within rounds) [
     | inl arrive ↦ arrive
     | inr some ↦ λ i track there.
-        let went = progress v table h i track there run in
-        let low = went.low in
-        let limit = went.limit in
         let place : 0 + i ≡ i = omega arith in
-        let all = subst (λ k. 2 * moves track ≤ records h k) place (total-full table.tracks 0 (records h) (within h run) (omega (arith, some, enough)) i track there) in
-        arrived-if v table h i track run there (omega (arith, all, low, limit))
+        let all = subst (λ k. 2 * moves track ≤ stored_of table states k) place
+        (total-full table.tracks 0 (stored_of table states) (within-all states within) (omega (arith, some, enough)) i track there) in
+        let is = is-stored states i track there in
+        let most = within i track there in
+        omega (arith, all, is, most)
   ]
+
+-- no agent of a fleet has more than its plan's moves
+pub fleet-within : (table : Timetable) (log : Log) (states : ℕ → State) → IsFleet table log states → AllWithin table states
+fleet-within table log states fleet i track there = all-within table i track fresh (states i) (deeds_of log i) (omega arith) (fleet.own i track there)

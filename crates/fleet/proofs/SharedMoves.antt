@@ -27,7 +27,7 @@ use Rattle.agent.specs.declared.refusal.TellFault.{TellFault}
 use Rattle.agent.specs.declared.refusal.TellFault.TheVariants as teller
 use Rattle.continuing.specs.Continuing.{AgreesUpTo}
 use Rattle.continuing.specs.Laws.Agreeing.{moves-along, same-move, along, need-same}
-use Rattle.fleet.specs.Deeds.{Deed, opens, starts, finishes, says, tells, hears, holds, looks, ends, ends_starting, ends_finishing, Does}
+use Rattle.fleet.specs.Deeds.{Deed, opens, starts, finishes, says, tells, hears, holds, looks, ends, stops, ends_starting, ends_finishing, Does}
 use Rattle.fleet.specs.OwnPlans.{end_of_moves, SharesMoves, MayBeLeftOut, StandsAs}
 
 -- what the bytes that are heard have to be: the timetable has nothing against what they tell
@@ -58,6 +58,7 @@ end-rises track m n less most = elim (cases_lt (end_of_moves track n) (end_of_mo
       let there = end-moves track m (omega (arith, less, most)) in
       let same : m ≡ n = omega (arith, rise, here, there, less) in
       let ends = ap (end_of_moves track) same in
+      let stops = ap (end_of_moves track) same in
       absurd (omega (arith, past, ends))
   | inr before ↦ before
 ]
@@ -121,7 +122,7 @@ module _ (last by : Timetable) (i : ℕ) (track other : Track) (there : track_of
 
   -- ---- deeds
 
-  module _ (old twin : State) (stands_as : StandsAs old twin) where
+  module _ (old twin : State) (stands_as : StandsAs old twin) (before : List (List ℕ)) where
     pub records-same : old.records ≡ twin.records
     records-same = elim stands_as [ inl same ↦ ap (λ s. s.records) same | inr same ↦ ap (λ s. s.records) same ]
 
@@ -133,7 +134,7 @@ module _ (last by : Timetable) (i : ℕ) (track other : Track) (there : track_of
     stays-as new same = subst (λ s. StandsAs s twin) (sym same) stands_as
 
     abbrev Outcome : Deed → State → Type 0
-    Outcome deed new = ((t : State) × Does last i other twin deed t × StandsAs new t) ⊎ (MayBeLeftOut deed × StandsAs new twin)
+    Outcome deed new = ((t : State) × Does last i other twin deed t × StandsAs new t) ⊎ (MayBeLeftOut before deed × StandsAs new twin)
 
     held-there : (new : State) → SharesMoves last by i track (begun_moves new) → new.records ≡ old.records → held_by_tape track old ≡ held_by_tape other twin
     held-there new shares same =
@@ -149,10 +150,10 @@ module _ (last by : Timetable) (i : ℕ) (track other : Track) (there : track_of
     StartsThere new answer = (t : State) × Answers (start_refusal last i other twin) twin t (next_cell other twin) answer × StandsAs new t
 
     abbrev Started : State → Result Cell Refusal → Type 0
-    Started new answer = StartsThere new answer ⊎ (MayBeLeftOut (starts answer) × StandsAs new twin)
+    Started new answer = StartsThere new answer ⊎ (MayBeLeftOut before (starts answer) × StandsAs new twin)
 
-    refused-left : (new : State) (answer : Result Cell Refusal) (why : Refusal) → MayBeLeftOut (starts (Err why)) → (answer ≡ Err why) × (new ≡ old) → Started new answer
-    refused-left new answer why may refuses = inr (subst (λ a. MayBeLeftOut (starts a)) (sym refuses.0) may, stays-as new refuses.1)
+    refused-left : (new : State) (answer : Result Cell Refusal) (why : Refusal) → MayBeLeftOut before (starts (Err why)) → (answer ≡ Err why) × (new ≡ old) → Started new answer
+    refused-left new answer why may refuses = inr (subst (λ a. MayBeLeftOut before (starts a)) (sym refuses.0) may, stays-as new refuses.1)
 
     module _ (new : State) (shares : SharesMoves last by i track (begun_moves new)) (answer : Result Cell Refusal) (whole : old.broken ≡ false) where
       abbrev k : ℕ
@@ -194,7 +195,7 @@ module _ (last by : Timetable) (i : ℕ) (track other : Track) (there : track_of
       tries stands free stores = elim stores.outcome [
         | inl good ↦ inl (begins stands free good.1 stores)
         | inr bad ↦ elim bad.1 [
-          | inl none ↦ inr (subst (λ a. MayBeLeftOut (starts a)) (sym bad.0) tt, inr (failed none stores.heard bad.2))
+          | inl none ↦ inr (subst (λ a. MayBeLeftOut before (starts a)) (sym bad.0) tt, inr (failed none stores.heard bad.2))
           | inr written ↦ inl (begins stands free written stores)
         ]
       ] where
@@ -335,8 +336,8 @@ module _ (last by : Timetable) (i : ℕ) (track other : Track) (there : track_of
       heard-there : (t : State) → old.broken ≡ false → IsHeard last old t bytes answer → new ≡ t → Outcome (hears bytes answer) new
       heard-there t whole is_heard same = inl (t, subst (λ s. IsHeard last s t bytes answer) (whole-same whole) is_heard, inl same)
 
-      refused-left_out : (why : HearFault) → MayBeLeftOut (hears bytes (Err why)) → Refuses old new answer why → Outcome (hears bytes answer) new
-      refused-left_out why may refuses = inr (subst (λ a. MayBeLeftOut (hears bytes a)) (sym refuses.0) may, stays-as new refuses.1)
+      refused-left_out : (why : HearFault) → MayBeLeftOut before (hears bytes (Err why)) → Refuses old new answer why → Outcome (hears bytes answer) new
+      refused-left_out why may refuses = inr (subst (λ a. MayBeLeftOut before (hears bytes a)) (sym refuses.0) may, stays-as new refuses.1)
 
       by_taking : (u : Telling) → BytesTell bytes u → old.broken ≡ false → any_fault bytes ≡ None → (b : Bool) → tells_too_many by u.message ≡ b
           → MatchOption (if b then Some fault.TooMany else None) (Keeps old new u.message answer) (Refuses old new answer) → Outcome (hears bytes answer) new
@@ -361,7 +362,7 @@ module _ (last by : Timetable) (i : ℕ) (track other : Track) (there : track_of
     -- ---- every deed
 
     pub deed-by : (deed : Deed) (new : State) → SharesMoves last by i track (begun_moves new) → IsFine last deed → Does by i track old deed new
-        → ((t : State) × Does last i other twin deed t × StandsAs new t) ⊎ (MayBeLeftOut deed × StandsAs new twin)
+        → ((t : State) × Does last i other twin deed t × StandsAs new t) ⊎ (MayBeLeftOut before deed × StandsAs new twin)
     deed-by (opens what count) new shares fine does =
         let fresh : State = record { records = twin.records; heard = []; broken = false } in
         inl (
@@ -372,7 +373,7 @@ module _ (last by : Timetable) (i : ℕ) (track other : Track) (there : track_of
     deed-by (starts answer) new shares fine does = start-by new answer shares does
     deed-by (finishes answer) new shares fine does = elim (finish-by new answer shares does) [
       | inl goes ↦ inl goes
-      | inr gone ↦ inr (subst (λ a. MayBeLeftOut (finishes a)) (sym gone.0) tt, gone.1)
+      | inr gone ↦ inr (subst (λ a. MayBeLeftOut before (finishes a)) (sym gone.0) tt, gone.1)
     ]
     deed-by (says answer) new shares fine does = says-by new answer (sym shares.agrees.number) does.0 does.1
     deed-by (tells answer) new shares fine does = tells-by new answer (sym shares.agrees.number) (sym shares.agrees.agents) does.0 does.1
@@ -381,6 +382,7 @@ module _ (last by : Timetable) (i : ℕ) (track other : Track) (there : track_of
         inl (twin, (does.0 ∙ held-there new shares (ap (λ s. s.records) does.2), does.1 ∙ finished-there, refl), stays-as new does.2)
     deed-by (looks begun most count) new shares fine does = inr (tt, stays-as new does.2)
     deed-by ends new shares fine does = inl (twin, refl, stays-as new does)
+    deed-by stops new shares fine does = inl (twin, refl, stays-as new does)
     deed-by ends_starting new shares fine does = elim (start-by new (Err StoreFailed) shares does) [
       | inl goes ↦ inl goes
       | inr gone ↦ inr (tt, gone.1)

@@ -52,7 +52,7 @@ spelled-at table (first ∷ all) (message ∷ messages) (suc m) bytes are there 
 
 -- ---- what was said is within the ranges of its numbers
 
-all-of : (P : Entry → Type 0) (es : List Entry) → ((n : ℕ) (e : Entry) → slice_get es n ≡ Some e → P e) → AllByRecursion P es
+pub all-of : (P : Entry → Type 0) (es : List Entry) → ((n : ℕ) (e : Entry) → slice_get es n ≡ Some e → P e) → AllByRecursion P es
 all-of P [] each = tt
 all-of P (e ∷ es) each = (each 0 e refl, all-of P es (λ n. each (suc n)))
 

@@ -32,8 +32,8 @@ use Rattle.agent.specs.declared.refusal.Refusal.TheVariants.{StoreFailed}
 use Rattle.agent.specs.declared.refusal.TellFault.{TellFault}
 use Rattle.agent.specs.declared.refusal.TellFault.TheVariants as teller
 use Rattle.agent.specs.Replies.{why_of, unless, answered, delivered, stood}
-use Rattle.fleet.specs.Deeds.{Deed, opens, starts, finishes, says, tells, hears, holds, looks, ends, ends_starting, ends_finishing, Does}
-use Rattle.fleet.specs.Fleets.{IsTellable, bytes_of, IsHonest}
+use Rattle.fleet.specs.Deeds.{Deed, opens, starts, finishes, says, tells, hears, holds, looks, ends, stops, ends_starting, ends_finishing, Does}
+use Rattle.fleet.specs.Fleets.{IsTellable, bytes_of}
 use Rattle.fleet.specs.FleetSafety.{walked_on}
 use Rattle.fleet.specs.Members.{IsLeftBy}
 use Rattle.fleet.specs.Retelling.{AddsEvent, AddsWrite, AddsDelivery, IsRetoldBy}
@@ -42,6 +42,13 @@ use Rattle.fleet.specs.Laws.Speaking.{at-other, say-at, tear-at, restart-at, rai
 use Rattle.fleet.specs.Laws.Storing.{own_test, IsQuiet, quiet-start, quiet-finish, IsStoring, start-stores, finish-stores, ComesOut, goes-by}
 use Rattle.fleet.specs.Laws.Telling.{none-refused-by}
 use Rattle.fleet.proofs.SpelledLemmas.{telling_in, Spells, AreSpelled, spelled-more, spelled-count, spelled-at, spelled-tells}
+
+-- what a run of the version has an event for: its messages, and the hearing of what was said
+abbrev pub IsEvent : Version → List (List ℕ) → Deed → Type 0
+IsEvent v before (says answer) = v ≡ One
+IsEvent v before (tells answer) = v ≡ Two
+IsEvent v before (hears bytes answer) = (m : ℕ) × (slice_get before m ≡ Some bytes)
+IsEvent v before _ = Unit {0}
 
 -- The run goes on: the agent stands where it leads, its drive has walked over these cells, and these messages were said; nothing changed of the other agents.
 pub record Goes (v : Version) (table : Timetable) (i : ℕ) (track : Track) (all : List (List ℕ)) (t : State) (cells : List Cell) (h new : History) : Type 0 where
@@ -344,7 +351,7 @@ module _ (v : Version) (table : Timetable) (i : ℕ) (track : Track) (there : tr
 
   pub deed-on : IsTellable table → ((m : ℕ) (message : Message) → slice_get (messages v table h) m ≡ Some message → WasSaid v table h m message)
       → ((bytes : List ℕ) (t : Telling) → BytesTell bytes t → any_fault bytes ≡ None) → ((bytes : List ℕ) (t u : Telling) → BytesTell bytes t → BytesTell bytes u → t ≡ u)
-      → (deed : Deed) (t : State) → IsHonest v spoken deed → Does table i track s deed t → Tells deed t (walked_on deed (walk track h i))
+      → (deed : Deed) (t : State) → IsEvent v spoken deed → Does table i track s deed t → Tells deed t (walked_on deed (walk track h i))
   deed-on tellable was_said fine one (opens what count) t honest does = (record { event = Restart i; answer = stood what count } ∷ h, refl, open-on t what count does.0 does.1 does.2)
   deed-on tellable was_said fine one (starts answer) t honest does = start-on t answer does
   deed-on tellable was_said fine one (finishes answer) t honest does = finish-on t answer does
@@ -354,5 +361,6 @@ module _ (v : Version) (table : Timetable) (i : ℕ) (track : Track) (there : tr
   deed-on tellable was_said fine one (holds what count) t honest does = (h, refl, no-event t does.2)
   deed-on tellable was_said fine one (looks begun most count) t honest does = (h, refl, no-event t does.2)
   deed-on tellable was_said fine one ends t honest does = (h, refl, no-event t does)
+  deed-on tellable was_said fine one stops t honest does = (h, refl, no-event t does)
   deed-on tellable was_said fine one ends_starting t honest does = start-on t (Err StoreFailed) does
   deed-on tellable was_said fine one ends_finishing t honest does = finish-on t (Err StoreFailed) does

@@ -29,7 +29,11 @@ pub data Deed : Type 0 where
   looks : (begun most count : ℕ) → Deed
   -- the process ended, at any moment in which it wrote nothing
   ends : Deed
-  -- or in the middle of the write of a start or of a finish, of which the record was stored or not
+  -- the agent's drive stands in a cell that its tape holds, and from now on enters none that it was
+  -- told to be free before; nobody was asked
+  stops : Deed
+  -- the process ended in the middle of the write of a start or of a finish, of which the record was
+  -- stored or not
   ends_starting : Deed
   ends_finishing : Deed
 
@@ -52,6 +56,7 @@ Does tt i track old (holds held count) new =
 Does tt i track old (looks begun most count) new =
     (begun ≡ begun_moves old) × IsFreeAhead tt i track old most count × (new ≡ old)
 Does tt i track old ends new = new ≡ old
+Does tt i track old stops new = new ≡ old
 Does tt i track old ends_starting new =
     Answers (start_refusal tt i track old) old new (next_cell track old) (Err StoreFailed)
 Does tt i track old ends_finishing new =

@@ -37,32 +37,36 @@ abbrev pub spoken : Log → List (List ℕ)
 spoken [] = []
 spoken (now ∷ log) = spoken log ++ bytes_of now.deed
 
--- an agent says messages of the fleet's version, and hears only what somebody said before: once,
--- often or never, and in any order
-abbrev pub IsHonest : Version → List (List ℕ) → Deed → Type 0
-IsHonest version before (says answer) = version ≡ One
-IsHonest version before (tells answer) = version ≡ Two
-IsHonest version before (hears bytes answer) = (m : ℕ) × (slice_get before m ≡ Some bytes)
-IsHonest version before _ = Unit {0}
+-- An agent hears only what somebody said before: once, often or never, and in any order. What it
+-- refuses may come from anywhere.
+abbrev pub IsHonest : List (List ℕ) → Deed → Type 0
+IsHonest before (hears bytes (Ok answer)) = (m : ℕ) × (slice_get before m ≡ Some bytes)
+IsHonest before _ = Unit {0}
 
-abbrev pub AreHonest : Version → Log → Type 0
-AreHonest version [] = Unit {0}
-AreHonest version (now ∷ log) = IsHonest version (spoken log) now.deed × AreHonest version log
+-- each deed of the log is so, beside the messages that were said before it
+abbrev pub AreAll : (List (List ℕ) → Deed → Type 0) → Log → Type 0
+AreAll Is [] = Unit {0}
+AreAll Is (now ∷ log) = Is (spoken log) now.deed × AreAll Is log
 
 -- ---- the fleet
 
 -- A fleet did this, and its agents are in these states: what each of them did leads it there from
--- an empty tape, and nothing was heard that was not said.
-pub record IsFleet (version : Version) (tt : Timetable) (log : Log) (states : ℕ
-    → State) : Type 0 where
+-- an empty tape, and nothing was heard that was not said. Each message is of either version.
+pub record IsFleet (tt : Timetable) (log : Log) (states : ℕ → State) : Type 0 where
   pub own : (i : ℕ) (track : Track) → track_of tt i ≡ Some track
       → DoesAll tt i track fresh (deeds_of log i) (states i)
   pub nobody_else : (i : ℕ) → track_of tt i ≡ None → deeds_of log i ≡ []
-  pub honest : AreHonest version log
+  pub honest : AreAll IsHonest log
 
 -- the states but for that of one agent
 abbrev pub with_state : (ℕ → State) → ℕ → State → ℕ → State
 with_state states i s k = if i == k then s else states k
+
+-- messages are of the one version alone
+abbrev pub IsOfVersion : Version → List (List ℕ) → Deed → Type 0
+IsOfVersion version before (says answer) = version ≡ One
+IsOfVersion version before (tells answer) = version ≡ Two
+IsOfVersion version before _ = Unit {0}
 
 -- the numbers of its messages are such as their bytes can spell: those of every plan that the
 -- checker accepts are

@@ -5,6 +5,8 @@
 pub mod Deeds
 -- what a whole fleet did
 pub mod Fleets
+-- what was refused, and nobody of the fleet had said
+pub mod Unsaid
 -- when a fleet is safe
 pub mod FleetSafety
 -- what a fleet did as a run

@@ -2,7 +2,6 @@
 -- one.
 use Rattle.std.specs.Prelude.{◌≡◌, ◌≢◌, ℕ, ◌+◌, ◌≤◌, ◌⊎◌, zero, suc}
 use Rattle.std.specs.Prelude.{true, List, [], ◌∷◌, ◌++◌, map, Some, Err}
-use Rattle.model.specs.declared.version.Version.{Version}
 use Rattle.model.specs.Plan.{Plan, IsTimetableOf}
 use Rattle.model.specs.Timetable.{Track, Timetable, moves, step_of, track_of}
 use Rattle.agent.specs.declared.refusal.HearFault.TheVariants as hear_fault
@@ -13,6 +12,7 @@ use Rattle.continuing.specs.Continuing.{AgreesUpTo}
 use Rattle.fleet.specs.Deeds.{Deed, starts, finishes, says, tells}
 use Rattle.fleet.specs.Deeds.{hears, looks, ends_starting, Does}
 use Rattle.fleet.specs.Fleets.{Logged, Log, fresh, spoken, IsHonest}
+use Rattle.fleet.specs.Unsaid.{IsUnsaid}
 
 -- a deed, whose it is, and the timetable by which its process ran
 pub record DoneBy : Type 0 where
@@ -32,30 +32,28 @@ abbrev pub log_of : Doings → Log
 log_of doings = map logged doings
 
 -- A deed led its agent on, and nothing changed of the others; the timetable of its process fits
--- whose it is, its track, and how many moves it has begun then. Messages are of the fleet's
--- version, and what is heard was said before.
-pub record IsLedOn (Fits : Timetable → ℕ → Track → ℕ → Type 0) (version : Version)
-    (said : List (List ℕ)) (now : DoneBy) (old new : ℕ → State) : Type 0 where
+-- whose it is, its track, and how many moves it has begun then. What is heard was said before.
+pub record IsLedOn (Fits : Timetable → ℕ → Track → ℕ → Type 0) (said : List (List ℕ)) (now : DoneBy)
+    (old new : ℕ → State) : Type 0 where
   pub track : Track
   pub is_track : track_of now.by now.agent ≡ Some track
   pub fits : Fits now.by now.agent track (begun_moves (new now.agent))
-  pub honest : IsHonest version said now.deed
+  pub honest : IsHonest said now.deed
   pub does : Does now.by now.agent track (old now.agent) now.deed (new now.agent)
   pub others : (k : ℕ) → k ≢ now.agent → new k ≡ old k
 
 -- these deeds, the newest first, led a fleet on from where it stood when these messages had been
 -- said
-abbrev pub AreLedOn : (Timetable → ℕ → Track → ℕ → Type 0) → Version → List (List ℕ) → (ℕ → State)
-    → Doings → (ℕ → State) → Type 0
-AreLedOn Fits version said from [] states = (i : ℕ) → states i ≡ from i
-AreLedOn Fits version said from (now ∷ doings) states =
-    (mid : ℕ → State) × AreLedOn Fits version said from doings mid
-    × IsLedOn Fits version (said ++ spoken (log_of doings)) now mid states
+abbrev pub AreLedOn : (Timetable → ℕ → Track → ℕ → Type 0) → List (List ℕ) → (ℕ → State) → Doings
+    → (ℕ → State) → Type 0
+AreLedOn Fits said from [] states = (i : ℕ) → states i ≡ from i
+AreLedOn Fits said from (now ∷ doings) states =
+    (mid : ℕ → State) × AreLedOn Fits said from doings mid
+    × IsLedOn Fits (said ++ spoken (log_of doings)) now mid states
 
 -- A fleet did this, over tapes that were empty at first, and its agents are in these states.
-abbrev pub IsFleetBy
-    : (Timetable → ℕ → Track → ℕ → Type 0) → Version → Doings → (ℕ → State) → Type 0
-IsFleetBy Fits version doings states = AreLedOn Fits version [] (λ i. fresh) doings states
+abbrev pub IsFleetBy : (Timetable → ℕ → Track → ℕ → Type 0) → Doings → (ℕ → State) → Type 0
+IsFleetBy Fits doings states = AreLedOn Fits [] (λ i. fresh) doings states
 
 -- ---- which timetables fit
 
@@ -86,27 +84,27 @@ pub record IsOfChain (plan : Plan) (plans : List Plan) (by : Timetable) (i : ℕ
 -- ---- what is left of it by the last plan
 
 -- Refusals that hang on the end of a plan, and a start whose write failed, with what the agent
--- refuses until it is opened again. By another plan they may be none; they moved nobody. How far
--- the way is free hangs on the plan too.
-abbrev pub MayBeLeftOut : Deed → Type 0
-MayBeLeftOut (starts (Err AtEnd)) = Unit {0}
-MayBeLeftOut (starts (Err (Waits agent count))) = Unit {0}
-MayBeLeftOut (starts (Err StoreFailed)) = Unit {0}
-MayBeLeftOut (starts (Err Broken)) = Unit {0}
-MayBeLeftOut (finishes (Err Broken)) = Unit {0}
-MayBeLeftOut (says (Err refusal)) = Unit {0}
-MayBeLeftOut (tells (Err tell_fault.Broken)) = Unit {0}
-MayBeLeftOut (hears bytes (Err hear_fault.TooMany)) = Unit {0}
-MayBeLeftOut (hears bytes (Err hear_fault.Broken)) = Unit {0}
-MayBeLeftOut (looks begun most count) = Unit {0}
-MayBeLeftOut ends_starting = Unit {0}
-MayBeLeftOut _ = ⊥
+-- refuses until it is opened again; and what was refused and nobody had said. By another plan they
+-- may be none; they moved nobody. How far the way is free hangs on the plan too.
+abbrev pub MayBeLeftOut : List (List ℕ) → Deed → Type 0
+MayBeLeftOut before (starts (Err AtEnd)) = Unit {0}
+MayBeLeftOut before (starts (Err (Waits agent count))) = Unit {0}
+MayBeLeftOut before (starts (Err StoreFailed)) = Unit {0}
+MayBeLeftOut before (starts (Err Broken)) = Unit {0}
+MayBeLeftOut before (finishes (Err Broken)) = Unit {0}
+MayBeLeftOut before (says (Err refusal)) = Unit {0}
+MayBeLeftOut before (tells (Err tell_fault.Broken)) = Unit {0}
+MayBeLeftOut before (hears bytes (Err hear_fault.TooMany)) = Unit {0}
+MayBeLeftOut before (hears bytes (Err hear_fault.Broken)) = Unit {0}
+MayBeLeftOut before (looks begun most count) = Unit {0}
+MayBeLeftOut before ends_starting = Unit {0}
+MayBeLeftOut before deed = IsUnsaid before deed
 
 -- the second log is the first without some of these
 abbrev pub LeavesOut : Log → Log → Type 0
 LeavesOut [] kept = kept ≡ []
 LeavesOut (now ∷ log) kept =
-    (MayBeLeftOut now.deed × LeavesOut log kept)
+    (MayBeLeftOut (spoken log) now.deed × LeavesOut log kept)
     ⊎ ((rest : Log) × (kept ≡ now ∷ rest) × LeavesOut log rest)
 
 -- the state is the other one, or that one with a write that failed

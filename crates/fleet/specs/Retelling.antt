@@ -9,7 +9,7 @@ use Rattle.model.specs.History.{armed, refused, History, is_store_failed}
 use Rattle.agent.specs.declared.refusal.TellFault.TheVariants.{Broken, OutOfMemory}
 use Rattle.agent.specs.Replies.{why_of, answered, delivered, stood}
 use Rattle.fleet.specs.Deeds.{Deed, opens, starts, finishes, says, tells}
-use Rattle.fleet.specs.Deeds.{hears, holds, looks, ends, ends_starting, ends_finishing}
+use Rattle.fleet.specs.Deeds.{hears, holds, looks, ends, stops, ends_starting, ends_finishing}
 use Rattle.fleet.specs.Fleets.{Log, spoken}
 
 -- the event and its answer were added to what happened before
@@ -53,6 +53,7 @@ IsRetoldBy messages before i (hears bytes answer) new =
 IsRetoldBy messages before i (holds held count) new = new ≡ before
 IsRetoldBy messages before i (looks begun most count) new = new ≡ before
 IsRetoldBy messages before i ends new = new ≡ before
+IsRetoldBy messages before i stops new = new ≡ before
 IsRetoldBy messages before i ends_starting new =
     AddsWrite before i (Start i) (refused why.StoreFailed) new
 IsRetoldBy messages before i ends_finishing new =

@@ -1,59 +1,74 @@
--- Rounds: what has to happen so that a fleet comes on, of what happened in its run, the newest
--- first.
-use Rattle.std.specs.Prelude.{◌≡◌, ℕ, ◌<◌, ◌≤◌, ◌||◌, zero, suc, Bool}
-use Rattle.std.specs.Prelude.{true, false, [], ◌∷◌, ◌++◌, MatchOption, Some}
-use Rattle.model.specs.declared.event.Event.{Event}
-use Rattle.model.specs.declared.event.Event.TheVariants.{Start, Finish, Restart}
-use Rattle.model.specs.declared.version.Version.{Version}
-use Rattle.model.specs.Completion.{HasArrived}
+-- Rounds: what has to happen so that a fleet comes on, by what its agents did. Logs have the newest
+-- first, and the deeds of an agent stand in order.
+use Rattle.std.specs.Prelude.{◌≡◌, ℕ, ◌*◌, ◌<◌, ◌≤◌, zero, suc, Bool, true, false}
+use Rattle.std.specs.Prelude.{List, ◌∷◌, ◌++◌, MatchOption, Some, Result, Err}
+use Rattle.std.specs.List.{AllByRecursion}
+use Rattle.grid.specs.declared.cell.Cell.{Cell}
 use Rattle.model.specs.Dependency.{need}
-use Rattle.model.specs.History.{Answer, History, is_store_failed, is_broken, done, is_moving, known}
 use Rattle.model.specs.Timetable.{Track, Timetable, moves, track_of}
+use Rattle.agent.specs.Counters.{known_in}
+use Rattle.agent.specs.States.{State, is_on_the_way, finished_moves}
+use Rattle.agent.specs.declared.refusal.Refusal.{Refusal}
+use Rattle.agent.specs.declared.refusal.Refusal.TheVariants.{StoreFailed}
+use Rattle.fleet.specs.Deeds.{Deed, opens, starts, finishes, ends_starting, ends_finishing, DoesAll}
+use Rattle.fleet.specs.Fleets.{Log, deeds_of}
 
-abbrev pub is_restart : Event → Bool
-is_restart (Restart i) = true
-is_restart _ = false
+-- no tape was opened, and no write failed
+abbrev pub is_calm : Deed → Bool
+is_calm (opens what count) = false
+is_calm (starts (Err StoreFailed)) = false
+is_calm (finishes (Err StoreFailed)) = false
+is_calm ends_starting = false
+is_calm ends_finishing = false
+is_calm _ = true
 
--- no write failed, and nobody was restarted
-abbrev pub IsCalm : History → Type 0
-IsCalm [] = Unit {0}
-IsCalm (now ∷ during) =
-    ((is_restart now.event || is_store_failed now.answer) ≡ false) × IsCalm during
+-- what was done led each agent from the one state to the other
+abbrev pub AreLedFrom : Timetable → (ℕ → State) → Log → (ℕ → State) → Type 0
+AreLedFrom tt old during new =
+    (i : ℕ) (track : Track) → track_of tt i ≡ Some track
+    → DoesAll tt i track (old i) (deeds_of during i) (new i)
 
--- among what happened is the event, behind some that happened before it
-pub record Occurs (event : Event) (during : History) : Type 0 where
-  pub answer : Answer
-  pub later : History
-  pub earlier : History
-  pub when : during ≡ later ++ record { event = event; answer = answer } ∷ earlier
+-- the agent was asked to finish
+pub record TriesToFinish (during : Log) (i : ℕ) : Type 0 where
+  pub answer : Result Cell Refusal
+  pub earlier : List Deed
+  pub later : List Deed
+  pub when : deeds_of during i ≡ earlier ++ finishes answer ∷ later
 
--- The agent tried to start, and had heard of whom its move waits for at least what that one had
--- finished when the round began.
-pub record HasTried (version : Version) (tt : Timetable) (before during : History) (i : ℕ)
+-- The agent tried to start, and had heard by then of whom its move waits for at least what that one
+-- had finished when the round began.
+pub record TriesToStart (tt : Timetable) (old : ℕ → State) (during : Log) (i : ℕ)
     (track : Track) : Type 0 where
-  pub tries : Occurs (Start i) during
-  pub has_heard : MatchOption (need tt i track (done before i)) (Unit {0})
-      (λ n. done before n.agent ≤ known version tt (tries.earlier ++ before) i n.agent)
+  pub answer : Result Cell Refusal
+  pub earlier : List Deed
+  pub later : List Deed
+  pub when : deeds_of during i ≡ earlier ++ starts answer ∷ later
+  pub has_heard : (s : State) → DoesAll tt i track (old i) earlier s
+      → MatchOption (need tt i track (finished_moves (old i))) (Unit {0})
+      (λ n. finished_moves (old n.agent) ≤ known_in s.heard n.agent)
 
--- A round behind what happened before: nobody is broken when it begins, none of its writes fails
--- and nobody is restarted; whoever was moving is asked to finish, and whoever stood and has a move
--- left tries to start, having heard of the one that its move waits for. Whatever else happens in
--- it.
-pub record IsRound (version : Version) (tt : Timetable) (before during : History) : Type 0 where
-  pub whole : (i : ℕ) → is_broken before i ≡ false
-  pub calm : IsCalm during
-  pub finishes : (i : ℕ) (track : Track) → track_of tt i ≡ Some track → is_moving before i ≡ true
-      → Occurs (Finish i) during
-  pub starts : (i : ℕ) (track : Track) → track_of tt i ≡ Some track → is_moving before i ≡ false
-      → done before i < moves track → HasTried version tt before during i track
+-- A round: nobody is broken when it begins, no tape is opened in it, and no write fails; whoever
+-- was moving is asked to finish, and whoever stood and has a move left tries to start, having heard
+-- of the one that its move waits for. Whatever else happens in it.
+pub record IsRound (tt : Timetable) (old : ℕ → State) (during : Log)
+    (new : ℕ → State) : Type 0 where
+  pub led : AreLedFrom tt old during new
+  pub whole : (i : ℕ) (track : Track) → track_of tt i ≡ Some track → (old i).broken ≡ false
+  pub calm : (i : ℕ) → AllByRecursion (λ deed. is_calm deed ≡ true) (deeds_of during i)
+  pub finishes : (i : ℕ) (track : Track) → track_of tt i ≡ Some track
+      → is_on_the_way (old i) ≡ true → TriesToFinish during i
+  pub starts : (i : ℕ) (track : Track) → track_of tt i ≡ Some track
+      → is_on_the_way (old i) ≡ false → finished_moves (old i) < moves track
+      → TriesToStart tt old during i track
 
 -- so many rounds, one behind the other; whatever happens between them
-abbrev pub HasRounds : Version → Timetable → ℕ → History → Type 0
-HasRounds version tt zero h = Unit {0}
-HasRounds version tt (suc n) h =
-    (before : History) × (during : History) × (after : History) × (h ≡ after ++ (during ++ before))
-    × IsRound version tt before during × HasRounds version tt n before
+abbrev pub HasRounds : Timetable → ℕ → (ℕ → State) → Type 0
+HasRounds tt zero states = Unit {0}
+HasRounds tt (suc n) states =
+    (old : ℕ → State) × (new : ℕ → State) × (during : Log) × (after : Log)
+    × IsRound tt old during new × AreLedFrom tt new after states × HasRounds tt n old
 
 -- every agent has finished all its moves, and stands
-abbrev pub HaveArrived : Timetable → History → Type 0
-HaveArrived tt h = (i : ℕ) (track : Track) → track_of tt i ≡ Some track → HasArrived h i track
+abbrev pub HaveAllArrived : Timetable → (ℕ → State) → Type 0
+HaveAllArrived tt states =
+    (i : ℕ) (track : Track) → track_of tt i ≡ Some track → (states i).records ≡ 2 * moves track

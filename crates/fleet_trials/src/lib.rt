@@ -1,19 +1,20 @@
 //! Small fleets, and what has to come out.
 #![tactic(auto)]
 
-ghost use Rattle.model.specs.declared.version.Version.TheVariants.{One};
 ghost use Rattle.model.specs.Examples.{row};
 ghost use Rattle.fleet.specs.Fleets.{IsFleet};
 ghost use Rattle.fleet.specs.OwnPlans.{IsFleetBy, SharesMoves};
 ghost use Rattle.fleet_trials.specs.Examples.{led, led_states, UnheardRound};
-ghost use Rattle.fleet_trials.specs.Examples.{extended, extended_states, OtherWays};
+ghost use Rattle.fleet_trials.specs.Examples.{extended, extended_states, OtherWays, StoppedDrive};
 
 /// A fleet of two, whose leader is killed in the middle of a write, and which its follower hears
-/// only later; and a round that brings nobody on, since the one that is waited for is not heard in
-/// it. And a fleet that goes over to a longer plan, which nobody does who moves otherwise.
+/// only later, beside what nobody said, and by the other version of messages; and a round that brings nobody on, since the one that is waited for is not heard in
+/// it. And a fleet that goes over to a longer plan, which nobody does who moves otherwise; and how
+/// far drives may have gone ahead that stopped.
 pub fn examples()
-    ensures led { IsFleet One row led led_states }
+    ensures led { IsFleet row led led_states }
     ensures unheard { UnheardRound }
-    ensures extended { IsFleetBy (SharesMoves row) One extended extended_states }
+    ensures extended { IsFleetBy (SharesMoves row) extended extended_states }
     ensures other_ways { OtherWays }
+    ensures stopped { StoppedDrive }
 {}

@@ -10,8 +10,7 @@ use Rattle.agent.specs.Agents.{AgentOn, state_of}
 use Rattle.agent.specs.States.{finished_moves, is_on_the_way}
 use Rattle.agent.specs.CountedTape.{counted_state}
 use Rattle.agent.specs.declared.counted_tape.CountedTape.{CountedTape}
-use Rattle.executor.specs.Endings.{IsEndedBy}
-use Rattle.fleet.specs.Rounds.{HaveArrived}
+use Rattle.executor.specs.Endings.{HaveArrived, IsEndedBy}
 use Rattle.executor.specs.Code.Leading.{EndingState, finished_in, Begins, LeadsThrough}
 use Rattle.executor.specs.Code.Leading.{LeadsOn, IsOf, HasLeft}
 

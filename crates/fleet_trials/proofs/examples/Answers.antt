@@ -1,5 +1,6 @@
-use Rattle.std.proofs.Common.{◌≡◌, ◌≢◌, ℕ, zero, suc, ◌≤◌, Bool, true, false, [], ◌∷◌, Some, None, max, eqb, inl, inr, refl, ap, subst, lit<, arith}
+use Rattle.std.proofs.Common.{◌≡◌, ◌≢◌, ℕ, zero, suc, ◌≤◌, Bool, true, false, [], ◌∷◌, ◌++◌, Some, None, Err, max, eqb, inl, inr, refl, ap, subst, lit<, arith}
 use Rattle.std.specs.Prelude.{◌||◌, if◌then◌else◌}
+use Rattle.std.specs.List.{AllByRecursion}
 use Rattle.std.proofs.lemmas.Bool.{cond-false, ne_eqb}
 use Rattle.std.proofs.lemmas.Option.{same_Some, none-some}
 use Rattle.model.specs.Examples.{leader, follower, row}
@@ -8,23 +9,26 @@ use Rattle.model.specs.Timetable.{Track, track_of, Stands}
 use Rattle.agent.specs.States.{State}
 use Rattle.grid.specs.declared.cell.Cell.{Cell}
 use Rattle.continuing.specs.Laws.Agreeing.{agrees-itself}
-use Rattle.fleet.specs.Deeds.{DoesAll}
+use Rattle.agent.specs.declared.refusal.Refusal.TheVariants.{Waits}
+use Rattle.fleet.specs.Deeds.{starts, DoesAll}
+use Rattle.fleet.specs.Rounds.{is_calm}
 use Rattle.fleet.specs.Fleets.{deeds_of, fresh}
 use Rattle.fleet.specs.OwnPlans.{SharesMoves}
-use Rattle.fleet_trials.specs.Examples.{led, led_states, bare_row, extended_states, other_row}
+use Rattle.fleet_trials.specs.Examples.{led, led_states, unheard_leader, unheard_round, bare_row, extended_states, other_row}
 use Rattle.fleet_trials.proofs.examples.Goals as goal
 
+unheard-led : (i : ℕ) (track : Track) → track_of row i ≡ Some track → DoesAll row i track (unheard_leader i) (deeds_of unheard_round i) (unheard_leader i)
+unheard-led zero track is = refl
+unheard-led (suc zero) track is = subst (λ x. DoesAll row 1 x (unheard_leader 1) (deeds_of unheard_round 1) (unheard_leader 1)) (same_Some follower track is)
+    (unheard_leader 1, (refl, refl), refl)
+unheard-led (suc (suc i)) track is = absurd (none-some track is)
+
+all-calm : (b : Bool) → AllByRecursion (λ deed. is_calm deed ≡ true) (if b then [] ++ starts (Err (Waits 0 1)) ∷ [] else [])
+all-calm true = (refl, tt)
+all-calm false = tt
+
 pub returns-clause-unheard : goal.returns-clause-unheard
-returns-clause-unheard c = (
-  (refl, (refl, (refl, tt))),
-  (refl, tt),
-  record { answer = _; later = []; earlier = []; when = refl },
-  refl,
-  refl,
-  refl,
-  refl,
-  λ has. (let all = has.all in omega (arith, all)),
-)
+returns-clause-unheard c = (unheard-led, λ i. all-calm (eqb 1 i), refl, λ arrived. (let e = arrived 1 follower refl in omega (arith, e)))
 
 -- ---- the fleet
 
@@ -62,16 +66,24 @@ follower-does = (
     state 0 false,
     (refl, refl),
     (
-      told,
+      state 0 false,
+      (refl, refl),
       (
-        record { plan = 7; message = own_message 0 1 },
-        record {
-          in_range = record { plan = lit< tt; sender = lit< tt; count = lit< tt; agents = (lit< tt, tt); numbers = (lit< tt, tt) };
-          spelled = inl (1, refl, record { spelled = refl });
-        },
-        (refl, λ j. raised (eqb 0 j), refl, refl),
+        told,
+        (
+          record { plan = 7; message = own_message 0 1 },
+          record {
+            in_range = record { plan = lit< tt; sender = lit< tt; count = lit< tt; agents = (lit< tt, tt); numbers = (lit< tt, tt) };
+            spelled = inl (1, refl, record { spelled = refl });
+          },
+          (refl, λ j. raised (eqb 0 j), refl, refl),
+        ),
+        (
+          led_states 1,
+          record { heard = refl; outcome = inl (refl, refl, refl) },
+          (led_states 1, ((refl, record { spelled = refl; rising = (omega arith, omega arith, tt) }), refl), refl),
+        ),
       ),
-      (led_states 1, record { heard = refl; outcome = inl (refl, refl, refl) }, refl),
     ),
   ),
 )
@@ -93,7 +105,7 @@ pub returns-clause-led : goal.returns-clause-led
 returns-clause-led c = record {
   own = own;
   nobody_else = nobody;
-  honest = (tt, ((0, refl), (tt, (tt, (refl, (tt, (tt, (tt, (tt, tt)))))))));
+  honest = (tt, (tt, ((0, refl), (tt, (tt, (tt, (tt, (tt, (tt, (tt, (tt, tt)))))))))));
 }
 
 -- ---- plans of their own

@@ -16,8 +16,8 @@ from-there own plan (next ∷ plans) (inl same) chain =
 from-there own plan (next ∷ plans) (inr further) chain = from-there own next plans further chain.1
 
 pub returns : goal.returns
-returns c map plan plans last v doings states chain valid is led =
-    led-as v [] (λ i. fresh) (IsOfChain plan plans) (SharesMoves last) fits doings states led
+returns c map plan plans last doings states chain valid is led =
+    led-as [] (λ i. fresh) (IsOfChain plan plans) (SharesMoves last) fits doings states led
   where
     fits : (by : Timetable) (i : ℕ) (track : Track) (count : ℕ) → track_of by i ≡ Some track → IsOfChain plan plans by i track count → SharesMoves last by i track count
     fits by i track count there of =

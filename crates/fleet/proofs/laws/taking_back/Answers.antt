@@ -18,10 +18,10 @@ same-end by table i track other (suc k) there now most agrees =
     ap (λ s. s + 1) (same-move (step_of track k + 1) track other k (along (step_of track k + 1) by table agrees i track other there now) (omega (arith, most)) (omega arith)).step
 
 pub returns : goal.returns
-returns c cut old new left before last v earlier later mid states goes_old goes_new is_left is_before is_last first within more =
-    let kept = led-within v [] (λ i. fresh) (SharesMoves before) (λ i. begun_moves (mid i)) earlier mid (λ i. omega arith) first in
-    led-on (SharesMoves last) v (λ i. fresh) earlier later mid states
-    (led-as v [] (λ i. fresh) (λ by i track count. SharesMoves before by i track count × (count ≤ begun_moves (mid i))) (SharesMoves last) fits earlier mid kept) more
+returns c cut old new left before last earlier later mid states goes_old goes_new is_left is_before is_last first within more =
+    let kept = led-within [] (λ i. fresh) (SharesMoves before) (λ i. begun_moves (mid i)) earlier mid (λ i. omega arith) first in
+    led-on (SharesMoves last) (λ i. fresh) earlier later mid states
+    (led-as [] (λ i. fresh) (λ by i track count. SharesMoves before by i track count × (count ≤ begun_moves (mid i))) (SharesMoves last) fits earlier mid kept) more
   where
     end : ℕ
     end = longest_of cut.courses
