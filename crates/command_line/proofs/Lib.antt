@@ -3,3 +3,4 @@ mod Stops
 mod Filled
 mod RequiredWords
 mod Taken
+mod Named

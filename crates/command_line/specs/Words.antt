@@ -16,12 +16,14 @@ use Rattle.clap.specs.declared.error.kind.ErrorKind.TheVariants as kind
 use Rattle.tape_claim.specs.declared.TapeClaim.{TapeClaim}
 use Rattle.tape_claim.specs.declared.TapeClaim.TheVariants.{Any, New, Kept}
 use Rattle.command_line.specs.declared.command_line.Asked.{Asked}
-use Rattle.command_line.specs.declared.lines.FleetQuery.{FleetQuery}
-use Rattle.command_line.specs.declared.lines.FleetQuery.TheVariants as fleet_query
+use Rattle.command_line.specs.declared.run_words.FleetQuery.{FleetQuery}
+use Rattle.command_line.specs.declared.run_words.FleetQuery.TheVariants as fleet_query
 use Rattle.command_line.specs.declared.lines.Line.{Line}
 use Rattle.command_line.specs.declared.lines.Line.TheVariants as line
-use Rattle.command_line.specs.declared.lines.PlanQuery.{PlanQuery}
-use Rattle.command_line.specs.declared.lines.PlanQuery.TheVariants as query
+use Rattle.command_line.specs.declared.plan_words.PlanQuery.{PlanQuery}
+use Rattle.command_line.specs.declared.plan_words.PlanQuery.TheVariants as query
+use Rattle.command_line.specs.declared.text_words.TextQuery.{TextQuery}
+use Rattle.command_line.specs.declared.text_words.TextQuery.TheVariants as text_query
 use Rattle.command_line.specs.declared.command_line.LineFault.{LineFault}
 use Rattle.command_line.specs.declared.command_line.LineFault.TheVariants.{Help, BadCommand}
 use Rattle.command_line.specs.declared.command_line.LineFault.TheVariants.{OutOfMemory}
@@ -63,9 +65,9 @@ file_command name =
       flags = explain_flag ∷ [];
     }
 
--- all commands
-abbrev pub commands : List Usage
-commands =
+-- the commands over maps and scenarios
+abbrev pub text_usages : List Usage
+text_usages =
     file_command (codes "map")
     ∷ file_command (codes "scen")
     ∷ record {
@@ -82,7 +84,12 @@ commands =
       cells = [];
       flags = codes "straight" ∷ codes "progress" ∷ explain_flag ∷ [];
     }
-    ∷ record {
+    ∷ []
+
+-- the commands over plans
+abbrev pub plan_usages : List Usage
+plan_usages =
+    record {
       name = codes "check";
       required = codes "map" ∷ codes "plan" ∷ [];
       options = codes "scen" ∷ codes "agents" ∷ codes "all" ∷ [];
@@ -131,7 +138,12 @@ commands =
       cells = [];
       flags = codes "json" ∷ explain_flag ∷ [];
     }
-    ∷ record {
+    ∷ []
+
+-- the commands of runs, agents and fleets
+abbrev pub run_usages : List Usage
+run_usages =
+    record {
       name = codes "run";
       required = codes "map" ∷ codes "plan" ∷ codes "events" ∷ [];
       options = [];
@@ -174,6 +186,10 @@ commands =
       flags = explain_flag ∷ [];
     }
     ∷ []
+
+-- all commands
+abbrev pub commands : List Usage
+commands = text_usages ++ (plan_usages ++ run_usages)
 
 -- one required word
 abbrev pub required_word : Text → Rule
@@ -341,6 +357,11 @@ IsFlagGiven flag rows = one_of flag rows ≡ Some (codes "true")
 abbrev pub AsksToExplain : List Row → Bool → Type 0
 AsksToExplain rows explain = explain ≡ true ↔ IsFlagGiven explain_flag rows
 
+-- the command with this name asks this of a map or a scenario
+abbrev pub IsTextQuery : Text → List Row → TextQuery → Type 0
+IsTextQuery name rows text_query.Map = name ≡ codes "map"
+IsTextQuery name rows text_query.Scen = name ≡ codes "scen"
+
 -- the command with this name asks this of a plan, by the values that the rows give
 abbrev pub IsPlanQuery : Text → List Row → PlanQuery → Type 0
 IsPlanQuery name rows (query.Deps cell) =
@@ -363,10 +384,8 @@ IsFleetQuery name rows (fleet_query.Anew number without) =
 
 -- the line is the command with this name, and its words have the values that the rows give
 abbrev pub IsCommand : Text → List Row → Line → Type 0
-IsCommand name rows (line.Map file) =
-    (name ≡ codes "map") × (first_of (codes "file") rows ≡ Some (string_bytes file))
-IsCommand name rows (line.Scen file) =
-    (name ≡ codes "scen") × (first_of (codes "file") rows ≡ Some (string_bytes file))
+IsCommand name rows (line.Text file query) =
+    (first_of (codes "file") rows ≡ Some (string_bytes file)) × IsTextQuery name rows query
 IsCommand name rows (line.Row map_file scen_file row) =
     (name ≡ codes "row") × (first_of (codes "map") rows ≡ Some (string_bytes map_file))
     × (first_of (codes "scen") rows ≡ Some (string_bytes scen_file))

@@ -1,18 +1,20 @@
 //! The command line of `mapf` as a value.
 #![tactic(auto)]
 
-mod agent_words;
 mod command_line;
-mod commands;
 mod help;
 mod lines;
 mod plan_words;
 mod reading;
 mod refusal;
-mod run_commands;
+mod run_words;
 mod spelling;
+mod text_words;
 mod words;
 
 pub use command_line::{Asked, LineFault};
-pub use lines::{CheckLine, FleetLine, FleetQuery, Line, OptimalLine, PlanQuery, RowsLine};
+pub use lines::{CheckLine, FleetLine, Line, OptimalLine, RowsLine};
+pub use plan_words::PlanQuery;
+pub use run_words::FleetQuery;
+pub use text_words::TextQuery;
 pub use words::line;

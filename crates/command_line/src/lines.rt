@@ -1,17 +1,16 @@
 //! The value of each command.
-use grid::Cell;
+use crate::plan_words::PlanQuery;
+use crate::run_words::FleetQuery;
+use crate::text_words::TextQuery;
 use tape_claim::TapeClaim;
 
 /// A command with what its words say.
 #[derive(Debug, Drop, PartialEq, Eq)]
 pub enum Line {
-    /// Reads a map and writes it in canonical form.
-    Map {
+    /// Answers a query on a map or a scenario.
+    Text {
         file: String,
-    },
-    /// Reads a scenario and writes it in canonical form.
-    Scen {
-        file: String,
+        query: TextQuery,
     },
     /// Judges the listed length of a scenario's row, counted from 0, on a map.
     Row {
@@ -99,20 +98,6 @@ pub struct OptimalLine {
     pub json: bool,
 }
 
-/// What is asked of a plan on a map, for which no other file is read.
-#[derive(Clone, Copy, Debug, PartialEq, Eq)]
-pub enum PlanQuery {
-    /// Which moves wait for which, or, of a cell, who comes into it.
-    Deps { cell: Option<Cell> },
-    /// Where the agents are at each time, or where one of them is.
-    Path { agent: Option<u16> },
-    /// What it costs, and at least, and perhaps each of its agents; `json` asks for the answer as
-    /// JSON.
-    Bound { agents: bool, json: bool },
-    /// The plan without what its agents do from a time on.
-    Cut { time: u32 },
-}
-
 /// The name of the files of the tapes has `%` for the number of the agent.
 #[derive(Debug, Drop, PartialEq, Eq)]
 pub struct FleetLine {
@@ -120,15 +105,4 @@ pub struct FleetLine {
     pub plan: String,
     pub tapes: String,
     pub query: FleetQuery,
-}
-
-/// What is asked of a plan by the tapes of all its agents.
-#[derive(Clone, Copy, Debug, PartialEq, Eq)]
-pub enum FleetQuery {
-    /// Where the agents are, and who keeps whom; `json` asks for each line as JSON.
-    Status { json: bool },
-    /// The plan as far as all is made that is begun.
-    Handover,
-    /// A plan of its own, with this number, of what isn't begun, perhaps without an agent.
-    Anew { number: u32, without: Option<u16> },
 }

@@ -1,7 +1,8 @@
 //! What is said of words that `clap` refuses: mostly its own text.
-use crate::commands::{plan_commands, text_commands};
 use crate::help::{self, CommandText};
-use crate::run_commands::run_commands;
+use crate::plan_words::plan_commands;
+use crate::run_words::run_commands;
+use crate::text_words::text_commands;
 use crate::words::program;
 use clap::error::{Error as ClapError, ErrorKind};
 use std::alloc::{AllocError, Global};

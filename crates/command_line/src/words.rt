@@ -20,12 +20,13 @@ ghost use Rattle.command_line.specs.Words.{MayGiveNumberFrom, GivesPattern, spel
 ghost use Rattle.command_line.specs.Code.Parts.{HasWords, IsRefusal, rule_of_word, shape_of_text};
 
 use crate::command_line::refused;
-use crate::commands::{plan_commands, text_commands};
 use crate::help::{self, CommandText, NumberText, Word};
+use crate::plan_words::plan_commands;
 use crate::reading::read_command;
 use crate::refusal::shown;
-use crate::run_commands::run_commands;
+use crate::run_words::run_commands;
 use crate::spelling::spelled_out;
+use crate::text_words::text_commands;
 use crate::{Asked, LineFault};
 use clap::{Arg, ArgAction, ArgMatches, Command};
 use grid::Cell;

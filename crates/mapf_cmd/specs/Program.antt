@@ -10,12 +10,14 @@ use Rattle.clap.specs.Words.{Text}
 use Rattle.command_line.specs.declared.command_line.Asked.{Asked}
 use Rattle.command_line.specs.declared.lines.CheckLine.{CheckLine}
 use Rattle.command_line.specs.declared.lines.RowsLine.{RowsLine}
-use Rattle.command_line.specs.declared.lines.FleetQuery.{FleetQuery}
-use Rattle.command_line.specs.declared.lines.FleetQuery.TheVariants as fleet_query
+use Rattle.command_line.specs.declared.run_words.FleetQuery.{FleetQuery}
+use Rattle.command_line.specs.declared.run_words.FleetQuery.TheVariants as fleet_query
 use Rattle.command_line.specs.declared.lines.Line.{Line}
 use Rattle.command_line.specs.declared.lines.Line.TheVariants as line
-use Rattle.command_line.specs.declared.lines.PlanQuery.{PlanQuery}
-use Rattle.command_line.specs.declared.lines.PlanQuery.TheVariants as query
+use Rattle.command_line.specs.declared.plan_words.PlanQuery.{PlanQuery}
+use Rattle.command_line.specs.declared.plan_words.PlanQuery.TheVariants as query
+use Rattle.command_line.specs.declared.text_words.TextQuery.{TextQuery}
+use Rattle.command_line.specs.declared.text_words.TextQuery.TheVariants as text_query
 use Rattle.command_line.specs.declared.command_line.LineFault.{LineFault}
 use Rattle.command_line.specs.declared.command_line.LineFault.TheVariants.{Help, BadCommand}
 use Rattle.command_line.specs.declared.command_line.LineFault.TheVariants.{OutOfMemory}
@@ -24,19 +26,15 @@ use Rattle.ending.specs.declared.status.Status.TheVariants as status
 use Rattle.ending.specs.Ending.{End, EndsAndTells, answered_with, gave_up, Concludes}
 use Rattle.ending.specs.Rewriting.{EndsWriting}
 use Rattle.ending.specs.Status.{code_of}
-use Rattle.text_commands.specs.MapCommand.{RewritesMap}
 use Rattle.text_commands.specs.RowCommand.{AnswersRow}
 use Rattle.text_commands.specs.RowsCommand.{AnswersRows, ShowsProgress}
 use Rattle.text_commands.specs.declared.rows_command.RowsAsked.{RowsAsked}
-use Rattle.text_commands.specs.ScenCommand.{RewritesScen}
+use Rattle.text_commands.specs.TextQueries as text_answers
 use Rattle.check_commands.specs.BoundCommand.{AnswersBound}
 use Rattle.check_commands.specs.CheckCommand.{AnswersCheck, AnswersCheckFit}
 use Rattle.check_commands.specs.declared.check_terms.CheckTerms.{CheckTerms}
 use Rattle.plan_commands.specs.ContinuesCommand.{AnswersContinues}
-use Rattle.plan_commands.specs.CutCommand.{AnswersCut}
-use Rattle.plan_commands.specs.DepsCellCommand.{AnswersDepsCell}
-use Rattle.plan_commands.specs.DepsCommand.{AnswersDeps}
-use Rattle.plan_commands.specs.PathCommand.{AnswersPath}
+use Rattle.plan_commands.specs.PlanQueries as plan_answers
 use Rattle.proof_commands.specs.OptimalCommand.{AnswersOptimal}
 use Rattle.run_commands.specs.RunCommand.{AnswersRun}
 use Rattle.agent_commands.specs.AgentCommand.{AnswersAgent}
@@ -98,21 +96,30 @@ CheckOn remaining contents (Some scen) terms old new end =
     OnThreeFiles (λ a b c d e f. AnswersCheckFit remaining remaining remaining contents terms a b c
     d e f old new end)
 
+-- what was asked of a map or a scenario was answered, by what was read of it
+abbrev pub AnswersText
+    : {R W : Type 0} → (R → Option (List ℕ)) → (W → Option (List ℕ)) → TextQuery
+    → Counted R → Counted R → Counted W → Counted W → End → Type 0
+AnswersText text_left contents text_query.Map a b old new end =
+    text_answers.RewritesMap text_left contents a b old new end
+AnswersText text_left contents text_query.Scen a b old new end =
+    text_answers.RewritesScen text_left contents a b old new end
+
 -- what was asked of a plan on a map was answered, by what was read of both
 abbrev pub AnswersQuery
     : {M P W : Type 0} → (M → Option (List ℕ)) → (P → Option (List ℕ))
     → (W → Option (List ℕ)) → PlanQuery
     → Counted M → Counted M → Counted P → Counted P → Counted W → Counted W → End → Type 0
 AnswersQuery map_left plan_left contents (query.Deps None) a b c d old new end =
-    AnswersDeps map_left plan_left contents a b c d old new end
+    plan_answers.AnswersDeps map_left plan_left contents a b c d old new end
 AnswersQuery map_left plan_left contents (query.Deps (Some cell)) a b c d old new end =
-    AnswersDepsCell map_left plan_left contents cell a b c d old new end
+    plan_answers.AnswersDepsCell map_left plan_left contents cell a b c d old new end
 AnswersQuery map_left plan_left contents (query.Path agent) a b c d old new end =
-    AnswersPath map_left plan_left contents agent a b c d old new end
+    plan_answers.AnswersPath map_left plan_left contents agent a b c d old new end
 AnswersQuery map_left plan_left contents (query.Bound agents json) a b c d old new end =
     AnswersBound map_left plan_left contents agents json a b c d old new end
 AnswersQuery map_left plan_left contents (query.Cut time) a b c d old new end =
-    AnswersCut map_left plan_left contents time a b c d old new end
+    plan_answers.AnswersCut map_left plan_left contents time a b c d old new end
 
 -- and what was asked of its agents' tapes, by what was read of these too
 abbrev pub AnswersFleet
@@ -133,13 +140,10 @@ abbrev pub PerformsOn
     : {F I W : Type 0} → (F → Option (List ℕ)) → (I → Option (List ℕ))
     → (W → Option (List ℕ)) → Line
     → Counted I → Counted I → Counted W → Counted W → End → Type 0
-PerformsOn remaining input_left contents (line.Map file) old_in new_in old new end =
-    OnFileOrInput (string_bytes file) (λ a b. RewritesMap input_left contents a b old new end)
-    (λ a b. RewritesMap remaining contents a b old new end)
-    old_in new_in
-PerformsOn remaining input_left contents (line.Scen file) old_in new_in old new end =
-    OnFileOrInput (string_bytes file) (λ a b. RewritesScen input_left contents a b old new end)
-    (λ a b. RewritesScen remaining contents a b old new end)
+PerformsOn remaining input_left contents (line.Text file query) old_in new_in old new end =
+    OnFileOrInput (string_bytes file)
+    (λ a b. AnswersText input_left contents query a b old new end)
+    (λ a b. AnswersText remaining contents query a b old new end)
     old_in new_in
 PerformsOn remaining input_left contents (line.Row map_file scen_file row) old_in new_in
     old new end =

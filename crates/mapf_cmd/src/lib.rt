@@ -12,7 +12,7 @@ pub use check_commands::{
 };
 pub use command_line::{
     Asked, CheckLine, FleetLine, FleetQuery, Line, LineFault, OptimalLine, PlanQuery, RowsLine,
-    line,
+    TextQuery, line,
 };
 pub use ending::{Ending, Status, conclude};
 pub use explain::Style;

@@ -3,22 +3,23 @@
 ghost use Rattle.std.specs.Prelude.{◌≡◌, ◌⊎◌, ◌||◌, MatchBool};
 ghost use Rattle.std.specs.Prelude.{MatchOption, MatchResult, string_bytes};
 ghost use Rattle.ending.specs.Ending.{end_of};
-ghost use Rattle.text_commands.specs.MapCommand.{RewritesMap};
 ghost use Rattle.text_commands.specs.RowCommand.{AnswersRow};
 ghost use Rattle.text_commands.specs.RowsCommand.{AnswersRows, ShowsProgress};
-ghost use Rattle.text_commands.specs.ScenCommand.{RewritesScen};
 ghost use Rattle.plan_commands.specs.ContinuesCommand.{AnswersContinues};
 ghost use Rattle.proof_commands.specs.OptimalCommand.{AnswersOptimal};
 ghost use Rattle.run_commands.specs.RunCommand.{AnswersRun};
 ghost use Rattle.agent_commands.specs.AgentCommand.{AnswersAgent};
 ghost use Rattle.agent_commands.specs.TapeCommand.{AnswersTape, EndsWithoutTape};
-ghost use Rattle.mapf_cmd.specs.Program.{AnswersFleet, AnswersQuery, CheckOn, OnFileOrInput};
-ghost use Rattle.mapf_cmd.specs.Program.{OnTwoFiles, OnThreeFiles, PerformsOn, ShowsOn};
+ghost use Rattle.mapf_cmd.specs.Program.{AnswersFleet, AnswersQuery, AnswersText, CheckOn};
+ghost use Rattle.mapf_cmd.specs.Program.{OnFileOrInput, OnTwoFiles, OnThreeFiles, PerformsOn};
+ghost use Rattle.mapf_cmd.specs.Program.{ShowsOn};
 ghost use Rattle.mapf_cmd.specs.Program.{rows_asked, terms_of};
 
 use agent_commands::{AgentFault, Seat, agent_command, open_to_read, tape_command};
 use check_commands::{BoundForm, CheckTerms, bound_command, check_command};
-use command_line::{CheckLine, FleetLine, FleetQuery, Line, OptimalLine, PlanQuery, RowsLine};
+use command_line::{
+    CheckLine, FleetLine, FleetQuery, Line, OptimalLine, PlanQuery, RowsLine, TextQuery,
+};
 use ending::Ending;
 use explain::NamedFile;
 use fleet_commands::{NewPlan, anew_command, handover_command, status_command};
@@ -30,7 +31,7 @@ use std::fs;
 use std::io::{Read, Write};
 use std::rt::Files;
 use tape_claim::LockFile;
-use text_commands::{RowsAsked, map_command, row_command, rows_command, scen_command};
+use text_commands::{RowsAsked, row_command, rows_command};
 use text_io::{Counted, Origin};
 
 /// Performs a command on its files. Where `is_watched` is set, `rows` says on `err` how far it has
@@ -52,8 +53,7 @@ where
         (λ _. (input.new ≡ input.old) × (out.new ≡ out.old) × (err.new ≡ err.old)) }
 {
     match line {
-        Line::Map { file } => map_on_file(rt, file, input, out),
-        Line::Scen { file } => scen_on_file(rt, file, input, out),
+        Line::Text { file, query } => text_on_file(rt, file, *query, input, out),
         Line::Row { map, scen, row } => row_on_files(rt, map, scen, *row, out),
         Line::Rows(rows) => rows_on_files(rt, rows, is_watched, out, err),
         Line::Check(check) => check_on_files(rt, check, out),
@@ -98,53 +98,53 @@ fn open_file<R: Files>(rt: &R, path: &str, origin: Origin) -> Result<R::File, Or
     }
 }
 
-/// Performs `map` on its file, or on the input where that is `-`.
+/// Answers a query on the one file of a command, or on the input where that is `-`.
 // Compiled by itself, for its room on the stack.
 #[inline(never)]
-fn map_on_file<R: Files + AllocGlobal, I: Read, W: Write>(
+fn text_on_file<R: Files + AllocGlobal, I: Read, W: Write>(
     rt: &R,
     file: &str,
+    query: TextQuery,
     input: &mut Counted<I>,
     out: &mut Counted<W>,
 ) -> Result<Ending, Origin>
     ensures { MatchResult result
         (λ ending. OnFileOrInput file.now
-        (λ a b. RewritesMap I.remaining W.contents a b out.old out.new (end_of ending))
-        (λ a b. RewritesMap R.File.remaining W.contents a b out.old out.new (end_of ending))
+        (λ a b. AnswersText I.remaining W.contents query a b out.old out.new (end_of ending))
+        (λ a b. AnswersText R.File.remaining W.contents query a b out.old out.new (end_of ending))
         input.old input.new)
         (λ _. (input.new ≡ input.old) × (out.new ≡ out.old)) }
 {
     match file {
-        "-" => Ok(map_command::perform(rt.alloc(), input, out)),
+        "-" => Ok(answer_text(rt.alloc(), input, query, out)),
         _ => {
-            let mut map = Counted::new(open_file(rt, file, Origin::Map)?);
-            Ok(map_command::perform(rt.alloc(), &mut map, out))
+            let mut text = Counted::new(open_file(rt, file, origin_of(query))?);
+            Ok(answer_text(rt.alloc(), &mut text, query, out))
         }
     }
 }
 
-/// Performs `scen` on its file, or on the input where that is `-`.
-// Compiled by itself, for its room on the stack.
-#[inline(never)]
-fn scen_on_file<R: Files + AllocGlobal, I: Read, W: Write>(
-    rt: &R,
-    file: &str,
-    input: &mut Counted<I>,
+/// Answers a query on a map or a scenario.
+fn answer_text<R: Read, W: Write>(
+    alloc: Global,
+    text: &mut Counted<R>,
+    query: TextQuery,
     out: &mut Counted<W>,
-) -> Result<Ending, Origin>
-    ensures { MatchResult result
-        (λ ending. OnFileOrInput file.now
-        (λ a b. RewritesScen I.remaining W.contents a b out.old out.new (end_of ending))
-        (λ a b. RewritesScen R.File.remaining W.contents a b out.old out.new (end_of ending))
-        input.old input.new)
-        (λ _. (input.new ≡ input.old) × (out.new ≡ out.old)) }
+) -> Ending
+    ensures { AnswersText R.remaining W.contents query text.old text.new out.old out.new
+        (end_of result) }
 {
-    match file {
-        "-" => Ok(scen_command::perform(rt.alloc(), input, out)),
-        _ => {
-            let mut scen = Counted::new(open_file(rt, file, Origin::Scenario)?);
-            Ok(scen_command::perform(rt.alloc(), &mut scen, out))
-        }
+    match query {
+        TextQuery::Map => text_commands::map_command::perform(alloc, text, out),
+        TextQuery::Scen => text_commands::scen_command::perform(alloc, text, out),
+    }
+}
+
+/// What the file is of that a query is on.
+fn origin_of(query: TextQuery) -> Origin {
+    match query {
+        TextQuery::Scen => Origin::Scenario,
+        _ => Origin::Map,
     }
 }
 
@@ -415,8 +415,7 @@ pub(crate) fn files_of(
 ) -> (NamedFile<'_>, Option<NamedFile<'_>>, Option<NamedFile<'_>>) {
     use Origin::{Events, Map, OldPlan, Plan, Proof, Scenario, Tape};
     match line {
-        Line::Map { file } => (file_of(Map, file), None, None),
-        Line::Scen { file } => (file_of(Scenario, file), None, None),
+        Line::Text { file, query } => (file_of(origin_of(*query), file), None, None),
         Line::Row { map, scen, .. } => (file_of(Map, map), Some(file_of(Scenario, scen)), None),
         Line::Rows(rows) => (
             file_of(Map, &rows.map),

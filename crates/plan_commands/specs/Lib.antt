@@ -6,20 +6,14 @@
 pub mod FaultWords
 -- what is written of a timetable's dependencies
 pub mod DepsText
--- what `mapf deps` does and answers
-pub mod DepsCommand
 -- what is written of the visits of a cell
 pub mod CellVisitsText
--- what `mapf deps --cell` does and answers
-pub mod DepsCellCommand
 -- which plans can be walked, agent by agent, and what is wrong with the others
 pub mod Walkable
 -- where the agents are at each time, and what is written of it
 pub mod PathText
--- what `mapf path` does and answers
-pub mod PathCommand
--- what `mapf cut` does and answers
-pub mod CutCommand
+-- what the commands over a map and a plan alone do and answer
+pub mod PlanQueries
 -- what `mapf continues` does and answers
 pub mod ContinuesCommand
 -- The code's own words, of which no promise speaks.

@@ -1,6 +1,6 @@
 //! `mapf cut`: writes a plan without what its agents do from a time on.
 ghost use Rattle.ending.specs.Ending.{EndsAndTells, end_of};
-ghost use Rattle.plan_commands.specs.CutCommand.{AnswersCut, ReadsCut};
+ghost use Rattle.plan_commands.specs.PlanQueries.{AnswersCut, ReadsCut};
 
 use checker::check;
 use continuing::cut;

@@ -1,7 +1,7 @@
 //! `mapf deps --cell`: says who comes into a cell of a plan, and in which order.
 ghost use Rattle.ending.specs.Ending.{EndsAndTells, end_of};
 ghost use Rattle.plan_commands.specs.CellVisitsText.{AreCellVisits};
-ghost use Rattle.plan_commands.specs.DepsCellCommand.{AnswersDepsCell};
+ghost use Rattle.plan_commands.specs.PlanQueries.{AnswersDepsCell};
 
 use crate::visits_text::write_visits;
 use depgraph::{Graph, Visit};

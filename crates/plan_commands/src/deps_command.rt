@@ -1,6 +1,6 @@
 //! `mapf deps`: says which moves of a plan wait for which.
 ghost use Rattle.ending.specs.Ending.{EndsAndTells, end_of};
-ghost use Rattle.plan_commands.specs.DepsCommand.{AnswersDeps};
+ghost use Rattle.plan_commands.specs.PlanQueries.{AnswersDeps};
 
 use crate::deps_text::write_deps;
 use ending::{Ending, Status, conclude, finish};

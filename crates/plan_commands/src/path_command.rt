@@ -1,7 +1,7 @@
 //! `mapf path`: writes where the agents of a plan are, time by time.
 ghost use Rattle.std.specs.Prelude.{◌≡◌, IfOk, MatchOption, Some};
 ghost use Rattle.ending.specs.Ending.{EndsAndTells, end_of};
-ghost use Rattle.plan_commands.specs.PathCommand.{AnswersPath, ReadsWalkable};
+ghost use Rattle.plan_commands.specs.PlanQueries.{AnswersPath, ReadsWalkable};
 ghost use Rattle.plan_commands.specs.PathText.{AreAsked};
 ghost use Rattle.checker.specs.Code.Walking.{start_cells};
 ghost use Rattle.plan_commands.specs.Code.Numerals.{AreNumerals};

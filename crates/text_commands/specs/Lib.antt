@@ -5,8 +5,7 @@
 -- the words of why a row has no answer
 pub mod FaultWords
 -- `mapf map` and `mapf scen`: what a command does that reads a text and writes it in canonical form
-pub mod MapCommand
-pub mod ScenCommand
+pub mod TextQueries
 -- which exit status the verdict on a row ends with
 pub mod RowStatus
 -- what `mapf row` does and answers

@@ -1,6 +1,6 @@
 //! `mapf map`: reads a map and writes it in canonical form.
 ghost use Rattle.ending.specs.Ending.{EndsAndTells, end_of};
-ghost use Rattle.text_commands.specs.MapCommand.{RewritesMap};
+ghost use Rattle.text_commands.specs.TextQueries.{RewritesMap};
 
 use ending::{Ending, Status, conclude, finish};
 use grid::{read_map, write_map};

@@ -1,6 +1,6 @@
 //! `mapf scen`: reads a scenario and writes it in canonical form.
 ghost use Rattle.ending.specs.Ending.{EndsAndTells, end_of};
-ghost use Rattle.text_commands.specs.ScenCommand.{RewritesScen};
+ghost use Rattle.text_commands.specs.TextQueries.{RewritesScen};
 
 use ending::{Ending, Status, conclude, finish};
 use scenario::{read_scen, write_scen};

@@ -1,5 +1,6 @@
 -- What the parts of the reading of the command line owe each other.
-use Rattle.std.specs.Prelude.{◌≡◌, ◌⊎◌, IsTrue, List, MatchOption, String, find, is_some, map}
+use Rattle.std.specs.Prelude.{◌≡◌, ◌⊎◌, IsTrue, List, [], ◌∷◌, MatchOption, String, find, is_some}
+use Rattle.std.specs.Prelude.{map, ⊤}
 use Rattle.std.specs.Global.{Global}
 use Rattle.std.specs.List.{AllByRecursion}
 use Rattle.std.specs.Str.{bytes_eq}
@@ -21,6 +22,11 @@ abbrev pub HasWords : Text → List Row → Type 0
 HasWords name rows =
     MatchOption (find (λ u. bytes_eq u.name name) commands) ⊥
     (λ u. AllByRecursion (λ word. IsTrue (is_some (first_of word rows))) u.required)
+
+-- the name is that of none of these commands
+abbrev pub IsOther : Text → List Usage → Type 0
+IsOther name [] = ⊤
+IsOther name (u ∷ usages) = (name ≡ u.name → ⊥) × IsOther name usages
 
 -- a word of a command as clap takes it
 abbrev pub rule_of_word : Word → Rule

@@ -8,7 +8,7 @@ use Rattle.model.specs.Timetable.{cell_at}
 use Rattle.plan_text.specs.Limits.{most_acts}
 use Rattle.checker.specs.Code.Tracks.{track_along, StaysInRange}
 use Rattle.ending.specs.Ending.{End}
-use Rattle.plan_commands.specs.PathCommand.{ShowsRows, EndsByPath}
+use Rattle.plan_commands.specs.PlanQueries.{ShowsRows, EndsByPath}
 use Rattle.plan_commands.specs.PathText.{count_of_times}
 use Rattle.plan_commands.specs.declared.path_fault.PathFault.{PathFault}
 

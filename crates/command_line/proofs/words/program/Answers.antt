@@ -1,10 +1,10 @@
 -- The commands are those of the three lists, one behind another.
 use Rattle.std.proofs.Common.{◌≡◌, ◌∙◌, List, ap, ap₂, true}
-use Rattle.std.specs.Prelude.{drop, fold, take}
+use Rattle.std.specs.Prelude.{fold}
 use Rattle.std.proofs.lemmas.Result.{IfOk-weaker}
 use Rattle.clap.specs.Simple.{app_of_fields, on_top}
 use Rattle.clap.specs.Words.{App, Shape, app_of, with_subcommand}
-use Rattle.command_line.specs.Words.{bare_program, commands, program_app}
+use Rattle.command_line.specs.Words.{bare_program, plan_usages, program_app, run_usages, text_usages}
 use Rattle.command_line.specs.Code.Parts.{shapes_of}
 use Rattle.command_line.proofs.words.program.Goals as goal
 
@@ -18,7 +18,7 @@ abbrev with_all : App → List Shape → App
 with_all app shapes = fold with_subcommand app shapes
 
 all_lists : (bare first second third : App) (xs ys zs : List Shape) → bare ≡ bare_program → first ≡ with_all bare xs → second ≡ with_all first ys
-    → third ≡ with_all second zs → xs ≡ shapes_of (take 4 commands) → ys ≡ shapes_of (take 7 (drop 4 commands)) → zs ≡ shapes_of (drop 11 commands)
+    → third ≡ with_all second zs → xs ≡ shapes_of text_usages → ys ≡ shapes_of plan_usages → zs ≡ shapes_of run_usages
     → third ≡ program_app
 all_lists bare first second third xs ys zs b f s t x y z = t ∙ ap₂ with_all (s ∙ ap₂ with_all (f ∙ ap₂ with_all b x) y) z
 

@@ -1,6 +1,6 @@
 -- What was answered is what was asked.
 use Rattle.std.proofs.Common.{subst, sym}
-use Rattle.command_line.specs.declared.lines.FleetQuery.{FleetQuery}
+use Rattle.command_line.specs.declared.run_words.FleetQuery.{FleetQuery}
 use Rattle.ending.specs.Ending.{end_of}
 use Rattle.mapf_cmd.specs.Program.{AnswersFleet, OnTwoFiles}
 use Rattle.mapf_cmd.proofs.on_files.fleet_on_files.Goals as goal

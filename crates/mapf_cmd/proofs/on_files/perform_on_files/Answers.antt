@@ -2,8 +2,9 @@
 use Rattle.std.proofs.Common.{◌≡◌, MatchResult, refl, subst, sym}
 use Rattle.std.proofs.lemmas.Result.{MatchResult-weaker}
 use Rattle.command_line.specs.declared.lines.Line.{Line}
-use Rattle.ending.specs.Ending.{end_of}
-use Rattle.mapf_cmd.specs.Program.{PerformsOn, ShowsOn}
+use Rattle.clap.specs.Words.{Text}
+use Rattle.ending.specs.Ending.{End, end_of}
+use Rattle.mapf_cmd.specs.Program.{AnswersText, OnFileOrInput, PerformsOn, ShowsOn}
 use Rattle.mapf_cmd.proofs.on_files.perform_on_files.Goals as goal
 
 pub returns-in-Row : goal.returns-in-Row
@@ -61,6 +62,17 @@ returns-in-Fleet g c =
     done.new.out (end_of ending) × ShowsOn g.E.Write.contents c.args.is_watched line c.args.err.now c.args.err.now)
     (λ _. (c.args.input.now ≡ c.args.input.now) × (done.new.out ≡ c.args.out.now) × (c.args.err.now ≡ c.args.err.now)) in
     subst Ends (sym c.in-Fleet.is) (MatchResult-weaker done.result done.ensures (λ _ on. ((on, refl), refl)) (λ _ kept. (refl, kept, refl)))
+
+pub returns-in-Text : goal.returns-in-Text
+returns-in-Text g c =
+    let done = c.text_on_file in
+    let Ends : Line → Type 0 = λ line. MatchResult done.result (λ ending. PerformsOn g.R.File.Read.remaining g.I.Read.remaining g.W.Write.contents line c.args.input.now done.new.input c.args.out.now
+    done.new.out (end_of ending) × ShowsOn g.E.Write.contents c.args.is_watched line c.args.err.now c.args.err.now)
+    (λ _. (done.new.input ≡ c.args.input.now) × (done.new.out ≡ c.args.out.now) × (c.args.err.now ≡ c.args.err.now)) in
+    let Answers : Text → End → Type 0 = λ file end. OnFileOrInput file (λ p q. AnswersText g.I.Read.remaining g.W.Write.contents c.in-Text.query p q c.args.out.now done.new.out end)
+    (λ p q. AnswersText g.R.File.Read.remaining g.W.Write.contents c.in-Text.query p q c.args.out.now done.new.out end) c.args.input.now done.new.input in
+    subst Ends (sym c.in-Text.is)
+    (MatchResult-weaker done.result done.ensures (λ ending on. (subst (λ file. Answers file (end_of ending)) c.deref.ensures on, refl)) (λ _ kept. (kept.0, kept.1, refl)))
 
 pub returns-in-Agent : goal.returns-in-Agent
 returns-in-Agent g c =

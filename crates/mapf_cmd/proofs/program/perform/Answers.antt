@@ -10,8 +10,7 @@ use Rattle.mapf_cmd.proofs.program.perform.Goals as goal
 
 shows_none : {E : Type 0} (told : E → Option (List ℕ)) (is_watched : Bool) (l : Line) (now : Counted E) → ShowsOn told is_watched l now now
 shows_none told is_watched (line.Rows l) now = shows_nothing told (l.progress || is_watched) now
-shows_none told is_watched (line.Map file) now = refl
-shows_none told is_watched (line.Scen file) now = refl
+shows_none told is_watched (line.Text file query) now = refl
 shows_none told is_watched (line.Row a b c) now = refl
 shows_none told is_watched (line.Check l) now = refl
 shows_none told is_watched (line.Query a b c) now = refl

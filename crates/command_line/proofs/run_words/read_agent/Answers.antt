@@ -1,6 +1,6 @@
 -- Its words are among those that the command requires.
 use Rattle.std.proofs.lemmas.Result.{err_from_is_err_and}
-use Rattle.command_line.proofs.agent_words.read_agent.Goals as goal
+use Rattle.command_line.proofs.run_words.read_agent.Goals as goal
 
 pub returns-in_err-word-2-clause-err : goal.returns-in_err-word-2-clause-err
 returns-in_err-word-2-clause-err c =

@@ -1,16 +1,163 @@
-//! The commands of runs, agents and fleets, and what help says of each.
-ghost use Rattle.std.specs.Prelude.{◌≡◌, drop, map};
-ghost use Rattle.command_line.specs.Words.{commands};
+//! The commands of runs, agents and fleets: what help says of each, and how its words are read.
+ghost use Rattle.std.specs.Prelude.{◌≡◌, codes, map, IfErr, IfOk, MatchOption, ⊤};
+ghost use Rattle.std.specs.Option.{IfSome};
+ghost use Rattle.clap.specs.Words.{found_of, rows_of};
+ghost use Rattle.command_line.specs.Words.{HasValues, IsCommand, run_usages};
+ghost use Rattle.command_line.specs.Code.Parts.{HasWords, IsOther, IsRefusal};
 ghost use Rattle.command_line.specs.Code.Parts.{shape_of_text, shapes_of};
 
+use crate::LineFault;
 use crate::help::Word::{Flag, Named, Required};
-use crate::help::{CommandText, EXPLAIN};
+use crate::help::{self, CommandText, EXPLAIN};
+use crate::lines::{FleetLine, Line};
+use crate::words::{
+    agent_id, has_flag, long_number, optional_number, tape_claim, tapes_word, word,
+};
+use clap::ArgMatches;
+use std::alloc::Global;
+
+/// What is asked of a plan by the tapes of all its agents.
+#[derive(Clone, Copy, Debug, PartialEq, Eq)]
+pub enum FleetQuery {
+    /// Where the agents are, and who keeps whom; `json` asks for each line as JSON.
+    Status { json: bool },
+    /// The plan as far as all is made that is begun.
+    Handover,
+    /// A plan of its own, with this number, of what isn't begun, perhaps without an agent.
+    Anew { number: u32, without: Option<u16> },
+}
 
 /// The commands of runs, agents and fleets.
 pub(crate) fn run_commands() -> &'static [CommandText<'static>]
-    ensures { map shape_of_text result.now ≡ shapes_of (drop 11 commands) }
+    ensures { map shape_of_text result.now ≡ shapes_of run_usages }
 {
     RUN_COMMANDS
+}
+
+/// Reads the command with this name by the words that it was given, if it is one of these.
+pub(crate) fn read_run_command(
+    alloc: Global,
+    name: &str,
+    given: &ArgMatches<'_>,
+) -> Option<Result<Line, LineFault>>
+    ensures other { MatchOption result (IsOther name.now run_usages) (λ _. ⊤) }
+    ensures ok { IfSome result
+        (λ r. IfOk r (IsCommand name.now (rows_of (found_of given.now)))) }
+    ensures err { IfSome result (λ r. IfErr r (λ e. HasWords name.now (rows_of (found_of given.now))
+        → HasValues name.now (rows_of (found_of given.now))
+        → e ≡ LineFault.OutOfMemory)) }
+    ensures refusal { IfSome result (λ r. IfErr r IsRefusal) }
+{
+    match name {
+        "run" => Some(read_run(alloc, given)),
+        "agent" => Some(read_agent(alloc, given)),
+        "tape" => Some(read_tape(alloc, given)),
+        "status" => Some(read_status(alloc, given)),
+        "handover" => Some(read_handover(alloc, given)),
+        "anew" => Some(read_anew(alloc, given)),
+        _ => None,
+    }
+}
+
+/// Reads `run` by the words that it was given.
+fn read_run(alloc: Global, given: &ArgMatches<'_>) -> Result<Line, LineFault>
+    ensures ok { IfOk result (IsCommand (codes "run") (rows_of (found_of given.now))) }
+    ensures err { IfErr result (λ e. HasWords (codes "run") (rows_of (found_of given.now))
+        → e ≡ LineFault.OutOfMemory) }
+    ensures refusal { IfErr result IsRefusal }
+{
+    Ok(Line::Run {
+        map: word(alloc, given, "map")?,
+        plan: word(alloc, given, "plan")?,
+        events: word(alloc, given, "events")?,
+        complete: has_flag(given, "complete"),
+    })
+}
+
+/// Reads `agent` by the words that it was given.
+fn read_agent(alloc: Global, given: &ArgMatches<'_>) -> Result<Line, LineFault>
+    ensures ok { IfOk result (IsCommand (codes "agent") (rows_of (found_of given.now))) }
+    ensures err { IfErr result (λ e. HasWords (codes "agent") (rows_of (found_of given.now))
+        → HasValues (codes "agent") (rows_of (found_of given.now))
+        → e ≡ LineFault.OutOfMemory) }
+    ensures refusal { IfErr result IsRefusal }
+{
+    Ok(Line::Agent {
+        map: word(alloc, given, "map")?,
+        plan: word(alloc, given, "plan")?,
+        id: agent_id(alloc, given, &help::AGENT_ID)?,
+        tape: word(alloc, given, "file")?,
+        claim: tape_claim(alloc, given)?,
+    })
+}
+
+/// Reads `tape` by the words that it was given.
+fn read_tape(alloc: Global, given: &ArgMatches<'_>) -> Result<Line, LineFault>
+    ensures ok { IfOk result (IsCommand (codes "tape") (rows_of (found_of given.now))) }
+    ensures err { IfErr result (λ e. HasWords (codes "tape") (rows_of (found_of given.now))
+        → HasValues (codes "tape") (rows_of (found_of given.now))
+        → e ≡ LineFault.OutOfMemory) }
+    ensures refusal { IfErr result IsRefusal }
+{
+    Ok(Line::Tape {
+        map: word(alloc, given, "map")?,
+        plan: word(alloc, given, "plan")?,
+        id: agent_id(alloc, given, &help::TAPE_ID)?,
+        tape: word(alloc, given, "file")?,
+    })
+}
+
+/// Reads `status` by the words that it was given.
+fn read_status(alloc: Global, given: &ArgMatches<'_>) -> Result<Line, LineFault>
+    ensures ok { IfOk result (IsCommand (codes "status") (rows_of (found_of given.now))) }
+    ensures err { IfErr result (λ e. HasWords (codes "status") (rows_of (found_of given.now))
+        → HasValues (codes "status") (rows_of (found_of given.now))
+        → e ≡ LineFault.OutOfMemory) }
+    ensures refusal { IfErr result IsRefusal }
+{
+    Ok(Line::Fleet(FleetLine {
+        map: word(alloc, given, "map")?,
+        plan: word(alloc, given, "plan")?,
+        tapes: tapes_word(alloc, given)?,
+        query: FleetQuery::Status {
+            json: has_flag(given, "json"),
+        },
+    }))
+}
+
+/// Reads `handover` by the words that it was given.
+fn read_handover(alloc: Global, given: &ArgMatches<'_>) -> Result<Line, LineFault>
+    ensures ok { IfOk result (IsCommand (codes "handover") (rows_of (found_of given.now))) }
+    ensures err { IfErr result (λ e. HasWords (codes "handover") (rows_of (found_of given.now))
+        → HasValues (codes "handover") (rows_of (found_of given.now))
+        → e ≡ LineFault.OutOfMemory) }
+    ensures refusal { IfErr result IsRefusal }
+{
+    Ok(Line::Fleet(FleetLine {
+        map: word(alloc, given, "map")?,
+        plan: word(alloc, given, "plan")?,
+        tapes: tapes_word(alloc, given)?,
+        query: FleetQuery::Handover,
+    }))
+}
+
+/// Reads `anew` by the words that it was given.
+fn read_anew(alloc: Global, given: &ArgMatches<'_>) -> Result<Line, LineFault>
+    ensures ok { IfOk result (IsCommand (codes "anew") (rows_of (found_of given.now))) }
+    ensures err { IfErr result (λ e. HasWords (codes "anew") (rows_of (found_of given.now))
+        → HasValues (codes "anew") (rows_of (found_of given.now))
+        → e ≡ LineFault.OutOfMemory) }
+    ensures refusal { IfErr result IsRefusal }
+{
+    Ok(Line::Fleet(FleetLine {
+        map: word(alloc, given, "map")?,
+        plan: word(alloc, given, "plan")?,
+        tapes: tapes_word(alloc, given)?,
+        query: FleetQuery::Anew {
+            number: long_number(alloc, given, "number", &help::NEW_NUMBER)?,
+            without: optional_number(alloc, given, "without", help::NO_LEFT_OUT)?,
+        },
+    }))
 }
 
 const RUN_COMMANDS: &[CommandText<'static>] = &[

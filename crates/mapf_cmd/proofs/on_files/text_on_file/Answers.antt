@@ -1,0 +1,6 @@
+use Rattle.std.proofs.Common.{inr, refl}
+use Rattle.mapf_cmd.proofs.on_files.text_on_file.Goals as goal
+
+pub returns-in_ok-open_file-in_default : goal.returns-in_ok-open_file-in_default
+returns-in_ok-open_file-in_default g c =
+    inr (c.in_default.not-text, (c.new-text.result, c.answer_text-in_default.new.text, c.answer_text-in_default.ensures), refl)
