@@ -16,6 +16,7 @@ WAREHOUSE = FLEET / "warehouse.map"
 # Agent 0 goes from 1 0 to 2 0, and agent 1 behind it from 0 0 to 1 0; the plan has the number 9.
 MAP, PLAN = ROOT / "examples" / "plain.map", ROOT / "examples" / "behind.plan"
 NEWS, OTHERS_NEWS = "46020000000000090001000000000001", "46020001000000090001000000000001"
+UNSAID = NEWS[:-1] + "2"
 # Two agents: each line is what one was asked and answered, a hundredth of a second behind the one before.
 TALK = f"""0 opens: at 1 0 done 0
 1 opens: at 0 0 done 0
@@ -90,7 +91,6 @@ AGREED = f"agreed: {COUNTED}\n"
 AGREES = (0, "agreed: ")
 # Seconds from one line to the next.
 EACH = 0.01
-UNSAID = NEWS[:-1] + "2"
 # Damage that is told as a difference: what is changed in the talk, and the lines that are due behind the place of the first difference.
 DAMAGED: list[tuple[str, str, str, str]] = [
     ("a reply that was changed", "1 start: refused Waits 0 1\n0 held", "1 start: moving 1 0\n0 held",
@@ -100,17 +100,17 @@ DAMAGED: list[tuple[str, str, str, str]] = [
     ("a message that nobody said", f"1 hear {NEWS}: heard 0 1\n1 tell", f"1 hear {UNSAID}: heard 0 1\n1 tell",
      f"agent 1 heard at 14 what nobody said: {UNSAID}|line 8 of 1.box|and 1 more"),
     ("a message that was not said", f"0 tell: said {NEWS}\n", "",
-     f"agent 1 heard at 13 what can't have been said before, in whatever order: {NEWS}|line 8 of 1.box|and 2 more"),
+     f"agent 1 heard at 13 what can't have been said before, in whatever order: {NEWS}|line 8 of 1.box|and 1 more"),
     ("a message that was changed where it was said", f"1 tell: said {OTHERS_NEWS}", f"1 tell: said {OTHERS_NEWS[:-1]}2",
      f"agent 1 differs at 15, line 10 of 1.box|tell|said {OTHERS_NEWS[:-1]}2|said {OTHERS_NEWS}|and 1 more"),
     ("a record that was lost", "0 opens: between 1 0 2 0 done 0\n", "0 opens: at 1 0 done 0\n",
-     "agent 0 differs at 12, line 17 of 0.box|finish|arrived 2 0|refused NotMoving|and 8 more"),
+     "agent 0 differs at 12, line 17 of 0.box|finish|arrived 2 0|refused NotMoving|and 1 more"),
     ("a tape that went back", "1 ends: 0", "1 opens: at 0 0 done 0",
      "agent 1 differs at 30, line 35 of 1.box|(its first line)|at 0 0 done 0|at 1 0 done 1"),
     ("a start that was left out", "1 start: moving 1 0\n", "",
      "agent 1 differs at 24, line 25 of 1.box|held|between 0 0 1 0 done 0|at 0 0 done 0|and 2 more"),
     ("a finish that was left out", "0 finish: arrived 2 0\n", "",
-     f"agent 0 differs at 12, line 17 of 0.box|tell|said {NEWS}|said 46020000000000090000|and 7 more"),
+     f"agent 0 differs at 12, line 17 of 0.box|tell|said {NEWS}|said 46020000000000090000"),
     ("a restart that was left out", "1 hear 4602\n1 opens: at 0 0 done 0\n", "",
      "agent 1 differs at 17, line 12 of 1.box|start|refused Waits 0 1|moving 1 0|and 2 more"),
     ("a call that was doubled", "1 start: moving 1 0\n", "1 start: moving 1 0\n1 start: moving 1 0\n",
@@ -126,13 +126,13 @@ DAMAGED: list[tuple[str, str, str, str]] = [
     ("a failed write that was forgotten", "0 start: refused StoreFailed", "0 start: moving 2 0",
      "agent 0 differs at 06, line 9 of 0.box|(its first line)|at 1 0 done 0|between 1 0 2 0 done 0"),
     ("a failed write of a start that was refused", "1 start: refused Waits 0 1\n0 held", "1 start: refused StoreFailed\n0 held",
-     "agent 1 differs at 02, line 4 of 1.box|start|refused StoreFailed|refused Waits 0 1"),
+     "agent 1 differs at 02, line 4 of 1.box|start|refused StoreFailed|refused Waits 0 1|and 3 more"),
     ("a right line that was refused", "1 start: refused AtEnd", "1 start: refused BadLine",
      "agent 1 differs at 28, line 33 of 1.box|start|refused BadLine|refused AtEnd"),
     ("a stranger's message, refused for another reason", "1 hear 4701: refused BadMagic", "1 hear 4701: refused BadLength",
      "agent 1 differs at 22, line 21 of 1.box|hear 4701|refused BadLength|refused BadMagic"),
     ("a first line without what was stored", "0 start\n", "",
-     "agent 0 differs at 08, line 12 of 0.box|(its first line)|between 1 0 2 0 done 0|at 1 0 done 0|and 9 more"),
+     "agent 0 differs at 08, line 12 of 0.box|(its first line)|between 1 0 2 0 done 0|at 1 0 done 0|and 2 more"),
 ]  # fmt: skip
 
 
@@ -178,10 +178,12 @@ def due_of(told: str) -> bytes:
     return "".join(f"{line}\n" for line in lines).encode()
 
 
-def of_damage(harness: Harness, name: str, was: str, now: str, told: str) -> list[Outcome]:
-    if was not in TALK:
+def of_damage(
+    harness: Harness, talk: str, name: str, was: str, now: str, told: str
+) -> list[Outcome]:
+    if was not in talk:
         raise ValueError(f"{name}: {was!r} isn't in the talk")
-    ended = asked(harness, files_of(TALK.replace(was, now, 1)))
+    ended = asked(harness, files_of(talk.replace(was, now, 1)))
     return [ended_as(name, f"check_boxes.py of a talk with {now!r} in place of {was!r}", ended, Ended(1, due_of(told), b""))]
 
 
@@ -271,7 +273,7 @@ def of_later_plans(harness: Harness) -> list[Outcome]:
     agrees = Ended(0, f"agreed: {CHANGED}\n".encode(), b"")
     without = Ended(2, b"", f"check_boxes: 0.box: its agent was given another plan than {LONGER}\n".encode())
     moved = CHANGE.replace("0 start: moving 2 0", "0 start: refused Waits 1 1")
-    unmoved = Ended(1, due_of("agent 0 differs at 04, line 6 of 0.box|finish|arrived 2 0|refused NotMoving|and 14 more"), b"")
+    unmoved = Ended(1, due_of("agent 0 differs at 04, line 6 of 0.box|finish|arrived 2 0|refused NotMoving|and 6 more"), b"")
     other = CHANGE.replace("1 start: refused Waits 0 1\n1 hear", "1 start: refused AtEnd\n1 hear")
     at_end = Ended(1, due_of("agent 1 differs at 12, line 15 of 1.box|start|refused AtEnd|refused Waits 0 1"), b"")
     return [
@@ -325,8 +327,6 @@ def of_bad_boxes(harness: Harness) -> Iterator[Outcome]:
         ("an agent that is none", of_two, [], 2, f"1.box: it is of agent 2, and {PLAN} has 2 agents"),
         ("another plan", changed(files, "1.box", lambda line: line.get("started", {}).update(plan="0")), [], 2,
          f"1.box: its agent was given another plan than {PLAN}"),
-        ("some that say and some that tell", files_of(f"{TALK}\n0 opens: at 2 0 done 1\n0 say"), [], 2,
-         "some were asked `say` and some `tell`: such a fleet isn't covered"),
         ("an agent without a box", files, ["--agent", "2"], 2, "no box is of agent 2"),
         ("no number", files, ["--agent", "two"], 2, "a number is wanted, and 'two' is none"),
         ("no program", files, ["--program", "./no"], 3, "./no: No such file or directory"),
@@ -374,7 +374,7 @@ def of_exchanged_boxes(harness: Harness) -> list[Outcome]:
 
 def tests(harness: Harness) -> Iterator[Callable[[], Sequence[Outcome]]]:
     for damage in DAMAGED:
-        yield functools.partial(of_damage, harness, *damage)
+        yield functools.partial(of_damage, harness, TALK, *damage)
     for test in (of_talk, of_times, of_later_plans, of_torn_boxes, of_other_files, of_an_older_tape, of_exchanged_boxes):
         yield functools.partial(test, harness)
     yield lambda: list(of_bad_boxes(harness))

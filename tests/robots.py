@@ -17,6 +17,7 @@ from typing import Callable, Iterator, Optional, Sequence
 import boxes
 import campaign
 import lone_robots
+import mixed_boxes
 import networking
 import robot_faults
 import watching
@@ -450,7 +451,8 @@ def outcomes(harness: Harness) -> Iterator[Outcome]:
     numbers = (signal.SIGTERM, signal.SIGINT, signal.SIGHUP) if harness.is_long else (signal.SIGTERM,)
     signals = [functools.partial(of_a_signal, harness, number) for number in numbers]
     lone = lone_robots.tests(harness, free_port)
-    others = [*lone, *robot_faults.tests(harness, free_port), *networking.tests(harness), *watching.tests(harness), *boxes.tests(harness)]
+    boxed = [*boxes.tests(harness), *mixed_boxes.tests(harness)]
+    others = [*lone, *robot_faults.tests(harness, free_port), *networking.tests(harness), *watching.tests(harness), *boxed]
     tests = [*of_udp(harness), *of_mqtt(harness), *alone, *signals, *others]
     # Robots wait most of their time, so twice as many of these tests as of others run at once.
     yield from side_by_side(functools.partial(collected, tests[place::2]) for place in (0, 1))

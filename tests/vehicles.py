@@ -16,7 +16,7 @@ import vehicle_stages
 from harness import ROOT, Ended, Harness, Outcome, compared, shown, side_by_side
 from processes import heeding, left_in, processes_of, wait_until
 from robots import Broker, mosquitto, short_of, with_paho
-from seeing_ahead import program_that_does_not, program_that_sees
+from seeing_ahead import program_that_does_not
 
 VDA, FLEET = ROOT / "examples" / "vda5050", ROOT / "examples" / "fleet"
 RUN, CHECK, TALK = VDA / "run.py", FLEET / "check_boxes.py", ROOT / "tests" / "vehicle_talk.py"
@@ -218,7 +218,7 @@ def outcomes(harness: Harness) -> Iterator[Outcome]:
     if not python or lacking(python):
         yield Outcome("vehicles on a broker", lacks=lacking(python))
         return
-    sees, older = program_that_sees(harness), program_that_does_not(harness)
+    sees, older = str(harness.program), program_that_does_not(harness)
     tests: list[Callable[[], Sequence[Outcome]]] = [functools.partial(of_kills, harness, sees), functools.partial(of_talk, harness, python)]
     tests += [functools.partial(of_calm, harness, sees), functools.partial(of_older_program, harness, older)]
     tests += vehicle_stages.tests(harness, python, sees)

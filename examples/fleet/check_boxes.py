@@ -1,13 +1,22 @@
 #!/usr/bin/env python3
-"""Checks what the black boxes of a fleet have: whether all that its agents answered is what the event rules give, by `mapf run`.
+"""Checks what the black boxes of a fleet have: whether its agents answered as the event rules say.
 
 Usage: check_boxes.py MAP PLAN BOX.. [--earlier PLAN..] [--agent N [--last N]] [--events FILE] [--program PATH]
 
 A BOX is what `robot.py --box` wrote; its earlier files, BOX.1, BOX.2 and so on, are read where they lie beside it. MAP and PLAN are the files by
-which the fleet was driven, with tapes that were new. All that was asked and answered becomes one list of events, which `mapf run` answers, and these
-answers have to be the agents' own. With --agent stands before that what one agent was asked last, what it answered, and what it held then by the
-rules. Where plans went on from one another, PLAN is the last one, and the others stand behind --earlier. By these an agent may refuse what it may do
-by the last one: such answers are left out.
+which the fleet was driven, with tapes that were new.
+
+Each agent is judged by its own state: `mapf agent` is asked the same on another tape, and has to
+give the same answers. Somebody of the fleet must have said before what an agent heard, by `say` or
+by `tell`. What an agent refused may come from anywhere.
+
+With --agent the last moments of an agent come first: what it was asked, what it answered, and what
+it held then by the rules. Where plans went on from one another, PLAN is the last one, and the
+others stand behind --earlier. By these an agent may refuse what it may do by the last one: such
+answers are left out.
+
+--events writes one list of events for `mapf run`, which has one version of messages.
+Where some agents `say` and others `tell`, the script writes no list: it says MixedVersions.
 
 Status 0: they agree, in one line. 1: they don't; the first difference is shown whole. 2: a bad command line; or boxes that can't be read,
 don't go together, or don't fit the map and the plan. 3: another file or the program failed.
@@ -16,6 +25,7 @@ import argparse
 import collections
 import dataclasses
 import datetime
+import os
 import pathlib
 import subprocess
 import sys
@@ -23,22 +33,27 @@ import tempfile
 from typing import Iterator, Optional, Sequence
 
 sys.dont_write_bytecode = True
-from agent import STORE_FAILED  # noqa: E402
+from agent import STALE_TAPE, STORE_FAILED  # noqa: E402
 from black_box import digest  # noqa: E402
 from dialogues import OPENED, BadBox, Box, Moment, Process, Turn, read_boxes  # noqa: E402
-from foresight import Foresight, moves_of, needs_of  # noqa: E402
 from given import number_in  # noqa: E402
-from history import DELIVER, HEARD, LEFT_OUT, MAY, SAY, SAYS, History, Step, find_unanswered, history_of, state_after  # noqa: E402
+from history import DELIVER, LEFT_OUT, SAY, WRITES, History, Step  # noqa: E402
+from history import by_process, find_unanswered, history_of, state_after, steps_of  # noqa: E402
+from journal import WHOLE  # noqa: E402
 from leaving import heed_signals  # noqa: E402
 from program import usual_program  # noqa: E402
 
 DIFFER, UNFIT, FAILED = 1, 2, 3
+# The status of an agent that has found its tape to be an older one.
+STALE = 3
 # How many calls of an agent are shown, and the most that may be asked for.
 LAST, MOST = 20, 999_999_999
 # How much of a line is shown in an account.
 SHOWN = 60
-# What a program answers to a question that it doesn't know.
-BAD_LINE = "refused BadLine"
+# What is answered where a record is stored.
+STORES = ("moving ", "arrived ")
+# Where files are in memory. The program syncs each record, which takes a disk milliseconds.
+MEMORY = "/dev/shm"
 
 
 class Failed(Exception):
@@ -60,7 +75,8 @@ def read_words(words: Sequence[str]) -> argparse.Namespace:
     parser.add_argument("--earlier", nargs="+", default=[], metavar="PLAN", help="plans by which the fleet was driven before")
     parser.add_argument("--agent", type=number, metavar="N", help="shows what this agent was asked last")
     parser.add_argument("--last", type=number, default=LAST, metavar="N", help="how many calls of it are shown (%(default)s)")
-    parser.add_argument("--events", type=pathlib.Path, metavar="FILE", help="writes the list there, as a text of events for `mapf run`")
+    about = "writes all there, as a text of events for `mapf run`, if messages have one version"
+    parser.add_argument("--events", type=pathlib.Path, metavar="FILE", help=about)
     parser.add_argument("--program", default=usual_program(), metavar="PATH", help="the program mapf (%(default)s)")
     return parser.parse_args(words)
 
@@ -68,15 +84,17 @@ def read_words(words: Sequence[str]) -> argparse.Namespace:
 class Rules:
     """What the program answers."""
 
-    def __init__(self, given: argparse.Namespace, version: int, folder: str):
-        self.program, self.files, self.version, self.folder = given.program, [given.map, given.plan], version, pathlib.Path(folder)
+    def __init__(self, given: argparse.Namespace, folder: str):
+        self.program, self.files = given.program, [given.map, given.plan]
+        self.folder = pathlib.Path(folder)
 
-    def _lines(self, words: Sequence[str], text: bytes = b"") -> list[str]:
+    def _lines(self, words: Sequence[str], text: bytes = b"", last: int = 0) -> list[str]:
+        """What a command writes. It has to end with status 0 or this last one."""
         try:
             ended = subprocess.run([self.program, *words], input=text, capture_output=True, check=False)
         except OSError as fault:
             raise Failed(f"{self.program}: {fault.strerror}") from None
-        if ended.returncode:
+        if ended.returncode not in (0, last):
             told = (ended.stderr or ended.stdout).decode(errors="replace").partition("\n")[0]
             raise (BadBox if ended.returncode == 1 else Failed)(f"{' '.join(self.files)}: `mapf {words[0]}` says '{told}'")
         return ended.stdout.decode("ascii").splitlines()
@@ -85,74 +103,78 @@ class Rules:
         """How many there are. A plan that isn't accepted has no runs."""
         return int(self._lines(["check", *self.files])[0].split()[2])
 
-    def text(self, events: Sequence[str]) -> str:
-        return "\n".join([f"mapf-events {self.version}", *events, ""])
+    def hold(self, box: Box) -> None:
+        """Puts beside each answer of a box the one that is due."""
+        tape = self.folder / str(box.agent)
+        for steps in by_process(steps_of(box)):
+            self._replay(tape, list(until_its_end(steps)))
 
-    def replies(self, events: Sequence[str]) -> list[str]:
-        file = self.folder / "events"
-        file.write_text(self.text(events), encoding="ascii")
-        found = self._lines(["run", *self.files, str(file)])
-        if len(found) != len(events):
-            raise Failed(f"`mapf run` answers {len(events)} events by {len(found)} lines")
-        # How many messages there were before isn't told to an agent.
-        return [" ".join(["said", *it.split()[2:]]) if it.startswith("said ") else it for it in found]
+    def _replay(self, tape: pathlib.Path, steps: Sequence[Step]) -> None:
+        """Asks an agent what a process was asked. Where a write failed, the tape is left as the
+        next process found it."""
+        asked = [it.turn for it in steps if it.event != LEFT_OUT]
+        for turn, reply in zip(asked, self._talk(tape, asked)):
+            turn.due = reply
+        for turn in (it.turn for it in steps if it.event == LEFT_OUT):
+            turn.due = turn.answer
+        last = steps[-1].turn
+        if is_stale(last):
+            due = self._of_a_kept_tape(tape, asked[0], last)
+            last.due = due if due.startswith(STALE_TAPE) else last.due
+        elif steps[-1].stored is not None and (last.due or "").startswith(STORES):
+            last.due = STORE_FAILED
+            if not steps[-1].stored:
+                os.truncate(tape, tape.stat().st_size - WHOLE)
 
-    def alike(self, agent: int, lines: Sequence[str]) -> dict[str, str]:
-        """What any agent answers to these lines, since none of them is for it."""
-        text = "".join(f"{line}\n" for line in lines).encode(errors="replace")
-        told = self._lines(["agent", *self.files, str(agent), str(self.folder / "tape"), "--tape", "new"], text) if lines else [""]
-        return dict(zip(lines, told[1:]))
+    def _talk(self, tape: pathlib.Path, turns: Sequence[Turn], *more: str) -> list[str]:
+        """What an agent answers, first by its first line. An older tape ends it."""
+        text = "".join(f"{it.asked}\n" for it in turns[1:]).encode(errors="replace")
+        words = ["agent", *self.files, str(turns[0].agent), str(tape), *more]
+        found = self._lines(words, text, STALE if more else 0)
+        if len(found) != len(turns):
+            raise Failed(f"`mapf agent` answers {len(turns)} lines by {len(found)}")
+        return found
 
-    def foresight(self, steps: Sequence[Step]) -> Optional[Foresight]:
-        """None where nobody was asked `may`, or the program doesn't know that question."""
-        asked = next((it.turn for it in steps if it.event == MAY), None)
-        if not asked or not self.alike(asked.agent, [asked.asked])[asked.asked].startswith(MAY):
-            return None
-        with open(self.files[1], encoding="ascii") as plan:
-            return Foresight(needs_of(self._lines(["deps", *self.files])), moves_of(plan.read()))
+    def _of_a_kept_tape(self, tape: pathlib.Path, first: Turn, asked: Turn) -> str:
+        """The answer where the tape has to be a kept one. Then there is another file beside it, so
+        the agent gets a copy."""
+        with tempfile.TemporaryDirectory(dir=self.folder) as folder:
+            kept = pathlib.Path(folder) / "tape"
+            self._talk(kept, [first], "--tape", "new")
+            kept.write_bytes(tape.read_bytes())
+            return self._talk(kept, [first, asked], "--tape", "kept")[-1]
+
+
+def is_stale(turn: Turn) -> bool:
+    return (turn.answer or "").startswith(STALE_TAPE)
+
+
+def until_its_end(steps: Sequence[Step]) -> Iterator[Step]:
+    """What a process may answer: behind a failed write, or an older tape, it answers nothing."""
+    for step in steps:
+        yield step
+        if step.stored is not None or is_stale(step.turn):
+            return
 
 
 @dataclasses.dataclass(frozen=True)
 class Judged:
-    """A step, what the rules give, and what its agent holds then by them."""
+    """A step, and what its agent holds then by the rules."""
 
     step: Step
-    rules: str
     state: str
 
     @property
     def differs(self) -> bool:
-        return bool(self.step.fault) or self.step.answer not in (None, self.rules)
+        return bool(self.step.fault) or self.step.turn.answer not in (None, self.step.turn.due)
 
 
-def learn(foresight: Foresight, step: Step, reply: str) -> None:
-    """What an agent knows behind an event that it was answered so."""
-    if step.turn.asked == OPENED:
-        foresight.restart(step.turn.agent)
-    elif reply.startswith(HEARD):
-        foresight.hear(step.turn.agent, bytes.fromhex(step.digits))
-
-
-def judged(rules: Rules, history: History) -> Iterator[Judged]:
-    replies = iter(rules.replies(history.events))
-    strange = [it.turn for it in history.steps if not it.event and not it.fault]
-    alike = rules.alike(strange[0].agent if strange else 0, list(dict.fromkeys(it.asked for it in strange)))
-    foresight = rules.foresight(history.steps)
+def judged(history: History) -> Iterator[Judged]:
     states: dict[int, str] = collections.defaultdict(str)
     for step in history.steps:
         agent = step.turn.agent
-        if step.is_event:
-            given = next(replies)
-            states[agent] = state_after(states[agent], given)
-            if foresight:
-                learn(foresight, step, given)
-        elif step.event == MAY:
-            given = foresight.answer(agent, states[agent], step.turn.asked) or "" if foresight else BAD_LINE
-        elif step.event == LEFT_OUT:
-            given = step.answer or ""
-        else:
-            given = states[agent] if step.event else alike.get(step.turn.asked, "")
-        yield Judged(step, given, states[agent])
+        states[agent] = state_after(states[agent], step.turn.due or "")
+        yield Judged(step, states[agent])
 
 
 def hold_boxes(given: argparse.Namespace, boxes: Sequence[Box], agents: int) -> None:
@@ -166,13 +188,6 @@ def hold_boxes(given: argparse.Namespace, boxes: Sequence[Box], agents: int) -> 
                 if process.about.get(name, values[0]) not in values:
                     raise BadBox(f"{box.path}: its agent was given another {name} than {getattr(given, name)}")
             process.is_earlier = process.about.get("plan", due["plan"][0]) != due["plan"][0]
-
-
-def version_of(boxes: Sequence[Box]) -> int:
-    kinds = {turn.asked for box in boxes for turn in box.calls} & set(SAYS)
-    if len(kinds) > 1:
-        raise BadBox("some were asked `say` and some `tell`: such a fleet isn't covered")
-    return 2 if "tell" in kinds else 1
 
 
 # What is told
@@ -195,8 +210,8 @@ def difference(it: Judged, box: Box) -> Iterator[str]:
         return
     yield f"agent {turn.agent} differs at {clock(turn.at)}, {box.place(turn.line)}"
     yield f"asked      {shown(turn.asked) if turn.asked != OPENED else '(its first line)'}"
-    yield f"answered   {shown(step.answer)}"
-    yield f"the rules  {it.rules}"
+    yield f"answered   {shown(turn.answer)}"
+    yield f"the rules  {shown(turn.due)}"
 
 
 def is_killed(process: Process, is_last: bool) -> bool:
@@ -208,7 +223,7 @@ def summary(boxes: Sequence[Box], agents: int, history: History) -> str:
     """What agrees, counted."""
     calls = [turn for box in boxes for turn in box.calls]
     unanswered = sum(turn.answer is None for turn in calls)
-    stored = sum(it.answer is None for it in history.steps)
+    stored = sum(it.turn.answer is None and it.turn.asked in WRITES for it in history.steps)
     counts = {
         "restarts": sum(max(len(box.opened) - 1, 0) for box in boxes),
         "kills": sum(is_killed(it, it is box.processes[-1]) for box in boxes for it in box.processes),
@@ -240,7 +255,8 @@ def cut(text: str) -> str:
 
 def told_of_a_turn(turn: Turn, process: int, it: Optional[Judged], state: str) -> str:
     name = cut(shown(turn.asked)) if turn.asked != OPENED else f"(process {process})"
-    wrong = f"; {it.step.fault or f'by the rules {cut(it.rules)}'}" if it and it.differs else ""
+    due = f"by the rules {cut(shown(turn.due))}"
+    wrong = f"; {it.step.fault or due}" if it and it.differs else ""
     return f"{clock(turn.at)}  {name}: {cut(shown(turn.answer))}{wrong}{holds(state)}"
 
 
@@ -265,14 +281,16 @@ def account(box: Box, last: int, found: Sequence[Judged]) -> Iterator[str]:
 
 def check(given: argparse.Namespace, folder: str) -> int:
     boxes = read_boxes(given.boxes)
-    rules = Rules(given, version_of(boxes), folder)
+    rules = Rules(given, folder)
     agents = rules.agents()
     hold_boxes(given, boxes, agents)
-    find_unanswered(boxes, rules.replies)
+    for box in boxes:
+        rules.hold(box)
+    find_unanswered(boxes)
     history = history_of(boxes)
     if given.events:
-        given.events.write_text(rules.text(history.events), encoding="ascii")
-    found = list(judged(rules, history))
+        given.events.write_text(history.text(), encoding="ascii")
+    found = list(judged(history))
     by_agent = {box.agent: box for box in boxes}
     if given.agent is not None:
         if given.agent not in by_agent:
@@ -291,7 +309,8 @@ def check(given: argparse.Namespace, folder: str) -> int:
 def main(words: Sequence[str]) -> int:
     given = read_words(words)
     try:
-        with tempfile.TemporaryDirectory(prefix="mapf-boxes-") as folder:
+        room = MEMORY if os.access(MEMORY, os.W_OK | os.X_OK) else None
+        with tempfile.TemporaryDirectory(prefix="mapf-boxes-", dir=room) as folder:
             return check(given, folder)
     except BadBox as fault:
         why, status = str(fault), UNFIT

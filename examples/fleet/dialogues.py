@@ -35,6 +35,8 @@ class Turn:
     # The line of the box that says so, counted through all its files.
     line: int
     answer: Optional[str] = None
+    # The answer that the rules give, where they give one.
+    due: Optional[str] = None
     # The message that it said all the same where the answer never came, as others heard.
     unanswered: str = ""
 

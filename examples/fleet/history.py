@@ -1,27 +1,33 @@
 """A fleet's history: what the boxes of its agents have, as one list of events of a run.
 
 An agent's answers come from its own tape and from what it heard. So beside the order of each agent's own turns one thing alone counts
-between two agents: that a message is said before it is heard. The list is in the order of the times at which answers came. Where all agents
-ran on one machine since it was booted, they are by its own clock, which is taken to be right: what was heard before it was said is a fault.
-Else they are by the clocks on the walls, which may be off: a hear that is too early by them waits for what it heard.
+between two agents: that a message is said before it is heard. What an agent refuses counts for
+nothing, whoever has said it.
+
+The list is in the order of the times at which answers came. Where all agents ran on one machine
+since it was booted, they are by its own clock, which is taken to be right: what was heard before it
+was said is a fault. Else they are by the clocks on the walls, which may be off: a hear that is too
+early by them waits for what it heard.
 """
 import dataclasses
 import heapq
 import itertools
 import re
-from typing import Callable, Collection, Iterator, NamedTuple, Optional, Sequence
+from typing import Collection, Iterable, Iterator, NamedTuple, Optional, Sequence
 
 from agent import STORE_FAILED
-from dialogues import OPENED, Box, Process, Turn
-from foresight import ASKED
+from dialogues import BadBox, Box, Process, Turn
 from journal import NONE, RIM, WHOLE
 
-HELD, MAY, LEFT_OUT = "held", "may", "left out"
+QUESTION, UNSAID, LEFT_OUT = "question", "unsaid", "left out"
 NO_MEMORY = "refused OutOfMemory"
 HEAR, SAID, HEARD = "hear ", "said ", "heard "
-SAYS = ("say", "tell")
+SAYS, WRITES = ("say", "tell"), ("start", "finish")
+# What changes nothing.
+ASKED = re.compile(r"held|may (?:0|[1-9]\d{0,9})", re.ASCII)
+FREE = "may "
 # How events of a run begin.
-SAY, DELIVER = "say ", "deliver "
+SAY, DELIVER, RESTART = "say ", "deliver ", "restart "
 OF_NOBODY, TOO_EARLY = "what nobody said", "what can't have been said before, in whatever order"
 STATE = re.compile(r"(?:at (\d{1,5}) (\d{1,5})|between(?: (?:\d{1,5})){4}) done (\d{1,5})", re.ASCII)
 MOVING = re.compile(r"moving (\d{1,5} \d{1,5})", re.ASCII)
@@ -47,21 +53,27 @@ def records_of(state: str) -> int:
 
 @dataclasses.dataclass
 class Step:
-    """An entry of the list: an event of a run; `held` and `may`, which ask what an agent holds and what it may do next; what an earlier plan alone
-    answers; or none, where any agent answers the line alike."""
+    """An entry of the list: an event of a run; a question, `held` or `may`; a message of which
+    nobody knows that it was said; what an earlier plan alone answers; or none, where the line was
+    refused."""
 
     turn: Turn
     event: str
-    # None where it never came.
-    answer: Optional[str]
     # The message that is said or heard.
     digits: str = ""
     # Why it can't be: what was heard that nobody had said.
     fault: str = ""
+    # Whether a write that failed has stored its record; none where no write has failed.
+    stored: Optional[bool] = None
 
     @property
-    def is_event(self) -> bool:
-        return self.event not in ("", HELD, MAY, LEFT_OUT)
+    def events(self) -> list[str]:
+        """What it is as events of a run. An event before that of a write makes it fail."""
+        if self.event in ("", QUESTION, UNSAID, LEFT_OUT):
+            return []
+        size = None if self.stored is None else WHOLE if self.stored else NONE
+        tear = [] if size is None else [f"tear {self.turn.agent} {size}"]
+        return [*tear, self.event]
 
 
 def digits_of(turn: Turn) -> str:
@@ -77,31 +89,31 @@ def written(turn: Turn, is_stored: bool) -> list[Step]:
     """A start or a finish. Whether its record was stored, where that wasn't answered, the next process has said."""
     event = f"{turn.asked} {turn.agent}"
     if turn.answer == STORE_FAILED:
-        return [Step(turn, f"tear {turn.agent} {WHOLE if is_stored else NONE}", "armed"), Step(turn, event, turn.answer)]
+        return [Step(turn, event, stored=is_stored)]
     # Where a process was killed in a write, and less than a record is left, nothing has happened but the restart behind it, as if the write
     # had been torn. Where the record is stored, the agent has done what it was asked, and only its answer is lost: no write has failed.
-    return [Step(turn, event, turn.answer)] if turn.answer is not None or is_stored else []
+    return [Step(turn, event)] if turn.answer is not None or is_stored else []
 
 
-def spoken(turn: Turn, said: Collection[str]) -> list[Step]:
-    """Another call that was answered."""
+def spoken(turn: Turn, said: Collection[str]) -> Step:
+    """Another call. What is refused is no event, whether it was said or not."""
     digits = digits_of(turn)
     if turn.asked in SAYS:
-        return [Step(turn, f"{SAY}{turn.agent}", f"{SAID}{digits}" if turn.unanswered else turn.answer, digits)]
-    if turn.asked == HELD:
-        return [Step(turn, HELD, turn.answer)]
+        is_said = turn.answer is not None or turn.unanswered
+        return Step(turn, f"{SAY}{turn.agent}" if is_said else UNSAID, digits)
     if ASKED.fullmatch(turn.asked):
-        return [Step(turn, MAY, turn.answer)]
+        return Step(turn, QUESTION)
+    if not (turn.answer or "").startswith(HEARD):
+        return Step(turn, "")
     if digits in said:
-        return [Step(turn, f"{DELIVER}{turn.agent}", turn.answer, digits)]
-    is_heard = digits and (turn.answer or "").startswith(HEARD)
-    return [Step(turn, "", turn.answer, digits, OF_NOBODY if is_heard else "")]
+        return Step(turn, f"{DELIVER}{turn.agent}", digits)
+    return Step(turn, "", digits, OF_NOBODY)
 
 
-def counts(turn: Turn, with_unanswered: bool) -> bool:
+def counts(turn: Turn) -> bool:
     """Whether a call that writes nothing has to stand in the list. Without an answer it has changed nothing that lasts."""
     if turn.answer is None:
-        return turn.asked in SAYS and (with_unanswered or turn.unanswered != "")
+        return turn.asked in SAYS
     return turn.answer != NO_MEMORY or not turn.asked.startswith(("tell", HEAR))
 
 
@@ -110,23 +122,33 @@ def hangs_on_plan(turn: Turn, is_stored: bool) -> bool:
     if turn.answer is None:
         return False
     is_failed_start = (turn.asked, turn.answer) == ("start", STORE_FAILED) and not is_stored
-    return is_failed_start or turn.answer.startswith(RIM) or bool(ASKED.fullmatch(turn.asked))
+    return is_failed_start or turn.answer.startswith(RIM) or turn.asked.startswith(FREE)
 
 
-def steps_of(box: Box, said: Collection[str], with_unanswered: bool) -> Iterator[Step]:
+def steps_of(box: Box, said: Collection[str] = ()) -> Iterator[Step]:
     """What happened to an agent, in order."""
     state, opened = "", box.opened
     for process, after in itertools.zip_longest(opened, opened[1:]):
         for turn in process.turns:
-            if process.is_earlier and hangs_on_plan(turn, has_stored(state, after)):
-                yield Step(turn, LEFT_OUT, turn.answer)
-            elif turn.asked == OPENED:
-                yield Step(turn, f"restart {box.agent}", turn.answer)
-            elif turn.asked in ("start", "finish"):
+            if turn is process.turns[0]:
+                yield Step(turn, f"{RESTART}{box.agent}")
+            elif process.is_earlier and hangs_on_plan(turn, has_stored(state, after)):
+                yield Step(turn, LEFT_OUT)
+            elif turn.asked in WRITES:
                 yield from written(turn, has_stored(state, after))
-            elif counts(turn, with_unanswered):
-                yield from spoken(turn, said)
+            elif counts(turn):
+                yield spoken(turn, said)
             state = state_after(state, turn.answer or "")
+
+
+def by_process(steps: Iterable[Step]) -> list[list[Step]]:
+    """The steps of an agent, apart for each of its processes."""
+    found: list[list[Step]] = []
+    for step in steps:
+        if step.event.startswith(RESTART):
+            found.append([])
+        found[-1].append(step)
+    return found
 
 
 def has_stored(state: str, after: Optional[Process]) -> bool:
@@ -207,35 +229,30 @@ class History:
     steps: list[Step]
     most_early: float
 
-    @property
-    def events(self) -> list[str]:
-        return [it.event for it in self.steps if it.is_event]
+    def text(self) -> str:
+        """A text of events, if all messages are of one version."""
+        asked = {it.turn.asked for it in self.steps if it.event.startswith(SAY)}
+        if len(asked) > 1:
+            why = "these agents `say` and `tell`, and a run has one version of messages"
+            raise BadBox(f"MixedVersions: {why}")
+        events = [event for step in self.steps for event in step.events]
+        return "\n".join([f"mapf-events {2 if 'tell' in asked else 1}", *events, ""])
 
 
-def history_of(boxes: Sequence[Box], with_unanswered: bool = False) -> History:
-    """The list, perhaps with all that agents were to say and may not have said."""
+def history_of(boxes: Sequence[Box]) -> History:
+    """The list."""
     boots = {str(process.about.get("boot", "")) for box in boxes for process in box.processes}
     said = {digits_of(turn) for box in boxes for turn in box.calls if turn.asked in SAYS} - {""}
-    steps = [list(steps_of(box, said, with_unanswered)) for box in boxes]
+    steps = [list(steps_of(box, said)) for box in boxes]
     order = Order(steps, len(boots) == 1 and boots != {""})
     return History(list(order.all()), order.most_early)
 
 
-def unanswered(boxes: Sequence[Box], replies_to: Callable[[Sequence[str]], Sequence[str]]) -> Iterator[tuple[Turn, str]]:
-    """The calls whose message never came, each with what it was if it was said, by the rules."""
-    history = history_of(boxes, True)
-    events = [it for it in history.steps if it.is_event]
-    for step, reply in zip(events, replies_to(history.events)):
-        if step.event.startswith(SAY) and step.turn.answer is None and not step.turn.unanswered:
-            yield step.turn, reply.split()[-1]
-
-
-def find_unanswered(boxes: Sequence[Box], replies_to: Callable[[Sequence[str]], Sequence[str]]) -> None:
-    """A message whose answer never came was said if somebody has heard it."""
-    while any(turn.answer is None and turn.asked in SAYS for box in boxes for turn in box.calls):
-        heard = {step.digits for step in history_of(boxes).steps if step.fault}
-        found = [(turn, digits) for turn, digits in (unanswered(boxes, replies_to) if heard else ()) if digits in heard]
-        if not found:
-            return
-        for turn, digits in found:
-            turn.unanswered = digits
+def find_unanswered(boxes: Sequence[Box]) -> None:
+    """Takes a message whose answer never came for said if somebody has heard it."""
+    calls = [turn for box in boxes for turn in box.calls]
+    missing = [turn for turn in calls if turn.answer is None and turn.asked in SAYS]
+    heard = {step.digits for step in history_of(boxes).steps if step.fault} if missing else set()
+    for turn in missing:
+        digits = (turn.due or "").partition(SAID)[2]
+        turn.unanswered = digits if digits in heard else ""
