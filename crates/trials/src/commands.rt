@@ -10,7 +10,7 @@ use mapf_cmd::{
 use std::alloc::Global;
 
 /// A command on the corner and its scenario, or else on the lane and the plan `BEHIND`.
-#[derive(Clone, Copy)]
+#[derive(Clone, Copy, Debug)]
 enum Command {
     Map,
     Scen,

@@ -9,7 +9,7 @@ use std::{env, fs, io, process};
 /// One agent, which makes one move.
 const ALONE: &str = "mapf-plan 1\nnumber 7\nagents 1\nagent 1 0 e\n";
 
-#[derive(Clone, Copy)]
+#[derive(Clone, Copy, Debug)]
 enum Command {
     /// Makes the move, by which the tape is written.
     Agent,
