@@ -13,7 +13,7 @@ use Rattle.agent.specs.Tape.{TapeState, MayRead, MayWrite, HasFailed, IsRead, Is
 use Rattle.robot.specs.declared.file_tape.FileTapeFault.{FileTapeFault}
 use Rattle.robot.specs.declared.file_tape.FileTapeFault.TheVariants.{TooLong, OutOfMemory}
 use Rattle.robot.specs.declared.file_tape.FileTape.{FileTape}
-use Rattle.robot.specs.Stored.{TakesAt}
+use Rattle.robot.specs.Stored.{StoresAt}
 
 -- why there is no tape, where there is no image
 abbrev pub file_fault_of : TapeMakeFault → FileTapeFault
@@ -44,9 +44,11 @@ pub record IsFileRead {F : Type 0} (t : FileTape F) (at : ℕ) (succeeds : Bool)
 
 -- A write succeeds where the file took the record and synced it, and else the image keeps what it
 -- had.
-pub record IsFileWrite {F : Type 0} (position : F → Option ℕ) (contents : F → Option (List ℕ))
-    (t : FileTape F) (at : ℕ) (bytes : List ℕ) (succeeds : Bool) (u : FileTape F) : Type 0 where
-  pub takes : succeeds ≡ true → TakesAt position contents t.disk.file at bytes u.disk.file
+pub record IsFileWrite {F : Type 0} (position : F → Option ℕ) (held contents : F → Option (List ℕ))
+    (IsSynced : F → F → Type 0) (t : FileTape F) (at : ℕ) (bytes : List ℕ) (succeeds : Bool)
+    (u : FileTape F) : Type 0 where
+  pub store : succeeds ≡ true
+      → StoresAt position held contents IsSynced t.disk.file at bytes u.disk.file
   pub synced : u.disk.synced ≡ succeeds
   pub stores : succeeds ≡ true → (file_state u).contents ≡ take at (file_state t).contents ++ bytes
   pub keeps : succeeds ≡ false → (file_state u).contents ≡ (file_state t).contents
@@ -69,12 +71,12 @@ file_is_read t u at succeeds bytes may h = record {
   fails = λ bad. absurd (true≢false (sym h.no_failure ∙ bad));
 }
 
-pub file_is_write : {F : Type 0} (position : F → Option ℕ) (contents : F → Option (List ℕ))
-    (t u : FileTape F) (at : ℕ) (bytes : List ℕ) (succeeds : Bool)
+pub file_is_write : {F : Type 0} (position : F → Option ℕ) (held contents : F → Option (List ℕ))
+    (IsSynced : F → F → Type 0) (t u : FileTape F) (at : ℕ) (bytes : List ℕ) (succeeds : Bool)
     → MayWrite (file_state t) at → length bytes ≡ record_length
-    → IsFileWrite position contents t at bytes succeeds u
+    → IsFileWrite position held contents IsSynced t at bytes succeeds u
     → IsWrite (file_state t) (file_state u) at bytes succeeds
-file_is_write position contents t u at bytes succeeds may count h = record {
+file_is_write position held contents IsSynced t u at bytes succeeds may count h = record {
   room = h.room;
   stores = h.stores;
   tears = λ bad. (

@@ -28,24 +28,36 @@ pub record IsUnwritten {F : Type 0} (t : FileTape F) (succeeds : Bool)
   pub kept : IsKept (file_state t) (file_state u)
   pub fails : HasFailed (file_state t).failures (file_state u).failures
 
--- The file took the record and synced it, and the guard could not take note of that: the record is
--- stored, and that counts as a failure.
-pub record IsUnnoted {F : Type 0} (position : F → Option ℕ) (contents : F → Option (List ℕ))
-    (t : FileTape F) (at : ℕ) (bytes : List ℕ) (succeeds : Bool) (u : FileTape F) : Type 0 where
+-- The guard let the file be written, and where that took a record, the guard took note of it.
+pub record IsNoted {F G : Type 0} (position : F → Option ℕ) (held contents : F → Option (List ℕ))
+    (IsSynced : F → F → Type 0) (HasAllowed : G → Type 0) (HasNoted : G → G → Type 0)
+    (t : GuardedTape F G) (at : ℕ) (bytes : List ℕ) (succeeds : Bool)
+    (u : GuardedTape F G) : Type 0 where
+  pub allowed : HasAllowed t.guard
+  pub writes : IsFileWrite position held contents IsSynced t.tape at bytes succeeds u.tape
+  pub noted : succeeds ≡ true → HasNoted t.guard u.guard
+
+-- The guard let the file be written, which took the record and synced it, and the guard could not
+-- take note of that: the record is stored, and that counts as a failure.
+pub record IsUnnoted {F G : Type 0} (position : F → Option ℕ) (held contents : F → Option (List ℕ))
+    (IsSynced : F → F → Type 0) (HasAllowed : G → Type 0) (t : GuardedTape F G) (at : ℕ)
+    (bytes : List ℕ) (succeeds : Bool) (u : FileTape F) : Type 0 where
+  pub allowed : HasAllowed t.guard
   pub no_success : succeeds ≡ false
   pub stored : FileTape F
-  pub stores : IsFileWrite position contents t at bytes true stored
+  pub stores : IsFileWrite position held contents IsSynced t.tape at bytes true stored
   pub disk : u.disk ≡ stored.disk
   pub kept : IsKept (file_state stored) (file_state u)
   pub fails : HasFailed (file_state stored).failures (file_state u).failures
 
 -- the file is written, or the guard doesn't let it be, or can't take note of it
 abbrev pub IsGuardedWrite : {F G : Type 0} → (F → Option ℕ) → (F → Option (List ℕ))
+    → (F → Option (List ℕ)) → (F → F → Type 0) → (G → Type 0) → (G → G → Type 0)
     → GuardedTape F G → ℕ → List ℕ → Bool → GuardedTape F G → Type 0
-IsGuardedWrite position contents t at bytes succeeds u =
-    IsFileWrite position contents t.tape at bytes succeeds u.tape
+IsGuardedWrite position held contents IsSynced HasAllowed HasNoted t at bytes succeeds u =
+    IsNoted position held contents IsSynced HasAllowed HasNoted t at bytes succeeds u
     ⊎ (IsUnwritten t.tape succeeds u.tape
-    ⊎ IsUnnoted position contents t.tape at bytes succeeds u.tape)
+    ⊎ IsUnnoted position held contents IsSynced HasAllowed t at bytes succeeds u.tape)
 
 pub guarded_within : {F G : Type 0} (t : GuardedTape F G)
     → length (guarded_state t).contents ≤ (guarded_state t).room
@@ -73,11 +85,12 @@ unwritten_is_write t u at bytes succeeds may h = record {
   fails = λ bad. h.fails;
 }
 
-unnoted_is_write : {F : Type 0} (position : F → Option ℕ) (contents : F → Option (List ℕ))
-    (t u : FileTape F) (at : ℕ) (bytes : List ℕ) (succeeds : Bool)
-    → IsUnnoted position contents t at bytes succeeds u
-    → IsWrite (file_state t) (file_state u) at bytes succeeds
-unnoted_is_write position contents t u at bytes succeeds h = record {
+unnoted_is_write : {F G : Type 0} (position : F → Option ℕ) (held contents : F → Option (List ℕ))
+    (IsSynced : F → F → Type 0) (HasAllowed : G → Type 0) (t : GuardedTape F G) (u : FileTape F)
+    (at : ℕ) (bytes : List ℕ) (succeeds : Bool)
+    → IsUnnoted position held contents IsSynced HasAllowed t at bytes succeeds u
+    → IsWrite (file_state t.tape) (file_state u) at bytes succeeds
+unnoted_is_write position held contents IsSynced HasAllowed t u at bytes succeeds h = record {
   room = h.kept.room ∙ h.stores.room;
   stores = λ good. absurd (true≢false (sym good ∙ h.no_success));
   tears = λ bad. (bytes, h.kept.contents ∙ h.stores.stores refl, inr refl);
@@ -85,15 +98,19 @@ unnoted_is_write position contents t u at bytes succeeds h = record {
   fails = λ bad. subst (λ n. HasFailed n (file_state u).failures) (h.stores.counts refl) h.fails;
 }
 
-pub guarded_is_write : {F G : Type 0} (position : F → Option ℕ) (contents : F → Option (List ℕ))
-    (t u : GuardedTape F G) (at : ℕ) (bytes : List ℕ) (succeeds : Bool)
+pub guarded_is_write : {F G : Type 0} (position : F → Option ℕ)
+    (held contents : F → Option (List ℕ)) (IsSynced : F → F → Type 0) (HasAllowed : G → Type 0)
+    (HasNoted : G → G → Type 0) (t u : GuardedTape F G) (at : ℕ) (bytes : List ℕ) (succeeds : Bool)
     → MayWrite (guarded_state t) at → length bytes ≡ record_length
-    → IsGuardedWrite position contents t at bytes succeeds u
+    → IsGuardedWrite position held contents IsSynced HasAllowed HasNoted t at bytes succeeds u
     → IsWrite (guarded_state t) (guarded_state u) at bytes succeeds
-guarded_is_write position contents t u at bytes succeeds may count h = elim h [
-  | inl made ↦ file_is_write position contents t.tape u.tape at bytes succeeds may count made
+guarded_is_write position held contents IsSynced HasAllowed HasNoted t u at bytes succeeds may
+    count h = elim h [
+  | inl made ↦ file_is_write position held contents IsSynced t.tape u.tape at bytes succeeds may
+      count made.writes
   | inr failed ↦ elim failed [
     | inl left ↦ unwritten_is_write t.tape u.tape at bytes succeeds may left
-    | inr stored ↦ unnoted_is_write position contents t.tape u.tape at bytes succeeds stored
+    | inr stored ↦ unnoted_is_write position held contents IsSynced HasAllowed t u.tape at bytes
+        succeeds stored
   ]
 ]

@@ -1,11 +1,11 @@
 //! The file under a tape.
 ghost use Rattle.std.specs.Prelude.{◌≡◌, ◌<◌, ◌≤◌, false, true, is_ok};
 ghost use Rattle.std.specs.Prelude.{length, take, OnErr, OnOk, IfOk};
-ghost use Rattle.std.specs.Io.KnownBytes.{Consumes, IsAtEnd, Keeps};
-ghost use Rattle.robot.specs.Stored.{TakesAt};
+ghost use Rattle.std.specs.Io.KnownBytes.{Consumes, IsAtEnd};
+ghost use Rattle.robot.specs.Stored.{StoresAt, TakesAt};
 
+use crate::sync_file::SyncFile;
 use agent::RECORD_SIZE;
-use std::fs::OpenFile;
 use std::io;
 use std::io::{Read, Seek, SeekFrom, Write};
 
@@ -29,11 +29,12 @@ impl<F> Disk<F> {
     }
 }
 
-impl<F: Write + Seek + OpenFile> Disk<F> {
+impl<F: Write + Seek + SyncFile> Disk<F> {
     /// Writes a record at a place, and syncs it.
     pub(crate) fn store(&mut self, at: u32, bytes: &[u8; RECORD_SIZE]) -> io::Result<()>
-        ensures takes { OnOk result
-            (TakesAt F.stream_position F.contents self.old.file at bytes.now self.new.file) }
+        ensures stores { OnOk result
+            (StoresAt F.stream_position F.stream_bytes F.contents F.is_synced self.old.file at
+            bytes.now self.new.file) }
         ensures synced { self.new.synced ≡ is_ok result }
     {
         self.synced = false;
@@ -42,15 +43,14 @@ impl<F: Write + Seek + OpenFile> Disk<F> {
     }
 }
 
-impl<F: Write + OpenFile> Disk<F> {
+impl<F: SyncFile> Disk<F> {
     /// Syncs the bytes and the length of the file.
     pub(crate) fn sync(&mut self) -> io::Result<()>
-        ensures bytes { Keeps (F.contents self.old.file) (F.contents self.new.file) }
+        ensures syncs { OnOk result (F.is_synced self.old.file self.new.file) }
         ensures ok { OnOk result (self.new.synced ≡ true) }
         ensures err { OnErr result (self.new.synced ≡ self.old.synced) }
     {
-        self.file.flush()?;
-        self.file.sync_all()?;
+        self.file.sync()?;
         self.synced = true;
         Ok(())
     }
@@ -58,7 +58,8 @@ impl<F: Write + OpenFile> Disk<F> {
 
 /// Writes a record at a place, all of it.
 fn write_at<F: Write + Seek>(file: &mut F, at: u32, bytes: &[u8; RECORD_SIZE]) -> io::Result<()>
-    ensures { OnOk result (TakesAt F.stream_position F.contents file.old at bytes.now file.new) }
+    ensures { OnOk result
+        (TakesAt F.stream_position F.stream_bytes F.contents file.old at bytes.now file.new) }
 {
     file.seek(SeekFrom::Start(u64::from(at)))?;
     file.write_all(bytes)

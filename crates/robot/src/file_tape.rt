@@ -8,9 +8,10 @@ ghost use Rattle.robot.specs.declared.file_tape.FileTapeFault.TheVariants.{OutOf
 ghost use Rattle.robot.specs.FileTape.{file_fault_of};
 
 use crate::disk::{Disk, read_up_to};
+use crate::sync_file::SyncFile;
 use agent::{MemTape, RECORD_LENGTH, RECORD_SIZE, Tape, TapeError, TapeMakeFault};
 use std::alloc::{AllocError, Global};
-use std::fs::{OpenFile, TryLockError};
+use std::fs::TryLockError;
 use std::io::{Read, Seek, Write};
 use std::{fmt, io};
 use tape_claim::LockFile;
@@ -95,7 +96,7 @@ pub struct FileTape<F> {
     failures: u64,
 }
 
-impl<F: Read + Write + Seek + OpenFile + LockFile + Drop> FileTape<F> {
+impl<F: Read + SyncFile + LockFile + Drop> FileTape<F> {
     ghost use Rattle.robot.specs.FileTape.{IsImage};
 
     /// Opens a file as a tape with room for so many bytes. The file was just opened by the caller,
@@ -131,12 +132,13 @@ impl<F: Read + Write + Seek + OpenFile + LockFile + Drop> FileTape<F> {
     }
 }
 
-impl<F: Write + OpenFile> FileTape<F> {
+impl<F: SyncFile> FileTape<F> {
     ghost use Rattle.robot.specs.FileTape.{file_state};
 
     /// Syncs the file as it is.
     pub fn sync(&mut self) -> Result<(), FileTapeFault>
         ensures state { file_state self.new ≡ file_state self.old }
+        ensures syncs { OnOk result (F.is_synced self.old.disk.file self.new.disk.file) }
         ensures synced { OnOk result (self.new.disk.synced ≡ true) }
         ensures err { IfErr result (λ fault. fault ≡ FileTapeFault.TapeFailed) }
     {
@@ -170,7 +172,7 @@ impl<F> FileTape<F> {
     }
 }
 
-impl<F: Read + Write + Seek + OpenFile> Tape for FileTape<F> {
+impl<F: Write + Seek + SyncFile> Tape for FileTape<F> {
     ghost use Rattle.robot.specs.FileTape.{file_state, IsFileRead, IsFileWrite};
     ghost use Rattle.robot.specs.FileTape.{file_within, file_is_read, file_is_write};
 
@@ -178,7 +180,7 @@ impl<F: Read + Write + Seek + OpenFile> Tape for FileTape<F> {
 
     ghost may_read = { IsFileRead };
 
-    ghost may_write = { IsFileWrite F.stream_position F.contents };
+    ghost may_write = { IsFileWrite F.stream_position F.stream_bytes F.contents F.is_synced };
 
     fn room(&self) -> u32 {
         self.image.room()
@@ -208,5 +210,5 @@ impl<F: Read + Write + Seek + OpenFile> Tape for FileTape<F> {
 
     ghost reads = { file_is_read };
 
-    ghost writes = { file_is_write F.stream_position F.contents };
+    ghost writes = { file_is_write F.stream_position F.stream_bytes F.contents F.is_synced };
 }

@@ -1,20 +1,28 @@
 //! A tape in a file to which nothing is written unless a guard lets it be, and of whose records the
 //! guard takes note.
-ghost use Rattle.std.specs.Prelude.{◌≡◌};
+ghost use Rattle.std.specs.Prelude.{◌≡◌, IsTrue};
 
 use crate::file_tape::FileTape;
+use crate::sync_file::SyncFile;
 use agent::{RECORD_SIZE, Tape, TapeError};
-use std::fs::OpenFile;
-use std::io::{Read, Seek, Write};
+use std::io::{Seek, Write};
 
-/// What has to hold before each write of a tape, and what is noted behind it, elsewhere.
+/// What has to hold before each write of a tape, and what is noted behind it, elsewhere. What it
+/// looks at, and where it notes that, each guard says by itself.
 pub trait Guard {
-    /// Whether it holds now. No contract says what it looks at.
-    fn holds(&self) -> bool;
+    /// It held when it was asked.
+    ghost has_allowed: { Self → Type 0 };
 
-    /// Takes note that a record was stored, and answers whether that was done. No contract says
-    /// where.
-    fn take_note(&mut self) -> bool;
+    /// The second is the first, which has taken note of a record.
+    ghost has_noted: { Self → Self → Type 0 };
+
+    /// Whether it holds now.
+    fn holds(&self) -> bool
+        ensures { IsTrue result → has_allowed self.now };
+
+    /// Takes note that a record was stored, and answers whether that was done.
+    fn take_note(&mut self) -> bool
+        ensures { IsTrue result → has_noted self.old self.new };
 }
 
 /// A tape in a file. A record that is to be written while its guard doesn't hold is not, and the
@@ -28,13 +36,14 @@ pub struct GuardedTape<F, G> {
 
 impl<F, G> GuardedTape<F, G> {
     pub fn new(tape: FileTape<F>, guard: G) -> GuardedTape<F, G>
-        ensures { result.tape ≡ tape }
+        ensures tape { result.tape ≡ tape }
+        ensures guard { result.guard ≡ guard }
     {
         GuardedTape { tape, guard }
     }
 }
 
-impl<F: Read + Write + Seek + OpenFile, G: Guard> Tape for GuardedTape<F, G> {
+impl<F: Write + Seek + SyncFile, G: Guard> Tape for GuardedTape<F, G> {
     ghost use Rattle.robot.specs.GuardedTape.{guarded_state, IsGuardedRead, IsGuardedWrite};
     ghost use Rattle.robot.specs.GuardedTape.{guarded_within, guarded_is_read, guarded_is_write};
 
@@ -42,7 +51,8 @@ impl<F: Read + Write + Seek + OpenFile, G: Guard> Tape for GuardedTape<F, G> {
 
     ghost may_read = { IsGuardedRead };
 
-    ghost may_write = { IsGuardedWrite F.stream_position F.contents };
+    ghost may_write = { IsGuardedWrite F.stream_position F.stream_bytes F.contents F.is_synced
+        G.has_allowed G.has_noted };
 
     fn room(&self) -> u32 {
         self.tape.room()
@@ -77,5 +87,6 @@ impl<F: Read + Write + Seek + OpenFile, G: Guard> Tape for GuardedTape<F, G> {
 
     ghost reads = { guarded_is_read };
 
-    ghost writes = { guarded_is_write F.stream_position F.contents };
+    ghost writes = { guarded_is_write F.stream_position F.stream_bytes F.contents F.is_synced
+        G.has_allowed G.has_noted };
 }

@@ -10,10 +10,12 @@ mod input_lines;
 mod line_answer;
 mod request;
 mod stale;
+mod sync_file;
 mod talk_fault;
 mod talking;
 
 pub use file_tape::{FileTape, FileTapeFault};
 pub use guarded_tape::{Guard, GuardedTape};
+pub use sync_file::SyncFile;
 pub use talk_fault::TalkFault;
 pub use talking::{Talker, talk};
