@@ -12,8 +12,17 @@ use Rattle.plan_text.specs.declared.plan_text_fault.PlanTextFault.{PlanTextFault
 use Rattle.plan_text.specs.declared.plan_text_fault.PlanTextFault.TheVariants.{BadHeader, BadNumber, TooMany, BadAgent, BadAct, Unfinished, TextAfter, ReadFailed, OutOfMemory}
 use Rattle.plan_text.specs.PlanText.{PlanText}
 use Rattle.plan_text.specs.PlanTextFault.{PlanTextFaultAt, plan_outcome}
-use Rattle.agent_commands.specs.KeptPlan.{HasMark, IsKeptIn, KeptText, mark_line}
-use Rattle.agent_commands.specs.Code.Plans.{IsNoTaskFor, IsNotLetBy, IsNotRead, ReadsMark, blame_of}
+use Rattle.agent_commands.specs.FileDeeds.{FileDeed}
+use Rattle.agent_commands.specs.FileDeeds.FileDeed.{opens_file}
+use Rattle.agent_commands.specs.KeptPlan.{HasMark, IsKeptIn, IsThere, KeptText, mark_line}
+use Rattle.tape_claim.specs.declared.TapeClaim.{TapeClaim}
+use Rattle.tape_claim.specs.declared.TapeClaim.TheVariants.{Any, New, Kept}
+use Rattle.agent_commands.specs.AgentCommand.{IsPlanKept}
+use Rattle.agent_commands.specs.Code.Plans.{IsDueTask, IsKeptTask, IsNoTaskFor, IsNotLetBy, IsNotRead, IsTaskDone, IsTermsFor, ReadsMark, blame_of, claim_of}
+use Rattle.agent_commands.specs.declared.kept_plan.PlanTask.{PlanTask}
+use Rattle.agent_commands.specs.declared.kept_plan.PlanTask.TheVariants.{Nothing, Sync, Mark, Write}
+use Rattle.agent_commands.specs.declared.terms.Terms.{Terms}
+use Rattle.agent_commands.specs.declared.terms.Terms.TheVariants.{Any as Any_terms, New as New_terms, Kept as Kept_terms}
 use Rattle.agent_commands.specs.declared.agent_fault.AgentFault.{AgentFault}
 use Rattle.agent_commands.specs.declared.agent_fault.AgentFault.TheVariants.{Planned, OpenFailed, TapeExists, NoTape, PlanDamaged, TapeEmptied, OtherPlan, File, Tape, Dialogue}
 use Rattle.agent_commands.specs.declared.plan_file.KeptPlan.{KeptPlan}
@@ -41,19 +50,19 @@ begun (Some all) None word read = absurd read
 begun (Some all) (Some left) word read = (left, read)
 
 -- the line was read, and then the plan, up to the end
-pub is_kept : {F : Type 0} (remaining : F → Option (List ℕ)) (file : F) (mid new : Option (List ℕ)) (marked : Bool) (p : Plan) (rest : List ℕ)
-    → Consumes (remaining file) mid (mark_line marked) → Consumes mid new rest → IsAtEnd new → PlanText p rest → IsKeptIn remaining file marked p
-is_kept remaining file mid new marked p rest line taken over spells = record {
+pub is_kept : (all mid new : Option (List ℕ)) (marked : Bool) (p : Plan) (rest : List ℕ)
+    → Consumes all mid (mark_line marked) → Consumes mid new rest → IsAtEnd new → PlanText p rest → IsKeptIn all marked p
+is_kept all mid new marked p rest line taken over spells = record {
   text = mark_line marked ++ rest;
-  whole = Consumes-all (remaining file) new (mark_line marked ++ rest) [] (mark_line marked ++ rest)
-      (Consumes-trans (remaining file) mid new (mark_line marked) rest line taken) over refl;
+  whole = Consumes-all all new (mark_line marked ++ rest) [] (mark_line marked ++ rest)
+      (Consumes-trans all mid new (mark_line marked) rest line taken) over refl;
   says = (rest, refl, spells);
 }
 
 -- what was read stands at the beginning
-pub marked_first : (old new : Option (List ℕ)) (answer : Option Bool) (marked : Bool) → ReadsMark old new answer → answer ≡ Some marked → marked ≡ true
-    → IfSome old (BeginsWith (mark_line true))
-marked_first old new answer marked reads is true_is = begun old new (mark_line true) (subst (λ m. Consumes old new (mark_line m)) true_is (subst (ReadsMark old new) is reads))
+pub marked_first : (old new : Option (List ℕ)) (answer : Option Bool) (marked so : Bool) → ReadsMark old new answer → answer ≡ Some marked → marked ≡ so
+    → HasMark so old
+marked_first old new answer marked so reads is same = begun old new (mark_line so) (subst (λ m. Consumes old new (mark_line m)) same (subst (ReadsMark old new) is reads))
 
 -- a text that is shorter than a first line has none
 pub short_text : (old new : Option (List ℕ)) (bytes : List ℕ) → Consumes old new bytes → IsAtEnd new → length bytes < 14
@@ -109,55 +118,86 @@ no_text (Some all) (Some text) (Some left) marked delivered fault never line tak
     never text p fault (subst (PlanText p) same kept.2) (subst (IsFirstFault PlanTextFaultAt fault) (sym taken) (first_fault fault delivered left bad))
 
 -- why a plan behind the first line wasn't read
-pub no_plan : {F : Type 0} (remaining : F → Option (List ℕ)) (file : F) (mid new : Option (List ℕ)) (marked : Bool) (delivered : List ℕ) (fault : PlanTextFault)
+pub no_plan : (all mid new : Option (List ℕ)) (marked : Bool) (delivered : List ℕ) (fault : PlanTextFault)
     → ((text : List ℕ) (p : Plan) (f : PlanTextFault) → PlanText p text → IsFirstFault PlanTextFaultAt f text → ⊥)
-    → Consumes (remaining file) mid (mark_line marked) → Consumes mid new delivered
-    → OutcomeSays PlanText PlanTextFaultAt delivered new (plan_outcome (Err fault)) → IsNotRead remaining file (blame_of fault)
-no_plan remaining file mid new marked delivered (BadHeader line) never read taken says = no_text (remaining file) mid new marked delivered _ never read taken says
-no_plan remaining file mid new marked delivered (BadNumber line) never read taken says = no_text (remaining file) mid new marked delivered _ never read taken says
-no_plan remaining file mid new marked delivered (TooMany line) never read taken says = no_text (remaining file) mid new marked delivered _ never read taken says
-no_plan remaining file mid new marked delivered (BadAgent line) never read taken says = no_text (remaining file) mid new marked delivered _ never read taken says
-no_plan remaining file mid new marked delivered (BadAct line column) never read taken says = no_text (remaining file) mid new marked delivered _ never read taken says
-no_plan remaining file mid new marked delivered (Unfinished line) never read taken says = no_text (remaining file) mid new marked delivered _ never read taken says
-no_plan remaining file mid new marked delivered (TextAfter line) never read taken says = no_text (remaining file) mid new marked delivered _ never read taken says
-no_plan remaining file mid new marked delivered ReadFailed never read taken says = tt
-no_plan remaining file mid new marked delivered OutOfMemory never read taken says = tt
+    → Consumes all mid (mark_line marked) → Consumes mid new delivered
+    → OutcomeSays PlanText PlanTextFaultAt delivered new (plan_outcome (Err fault)) → IsNotRead all (blame_of fault)
+no_plan all mid new marked delivered (BadHeader line) never read taken says = no_text all mid new marked delivered _ never read taken says
+no_plan all mid new marked delivered (BadNumber line) never read taken says = no_text all mid new marked delivered _ never read taken says
+no_plan all mid new marked delivered (TooMany line) never read taken says = no_text all mid new marked delivered _ never read taken says
+no_plan all mid new marked delivered (BadAgent line) never read taken says = no_text all mid new marked delivered _ never read taken says
+no_plan all mid new marked delivered (BadAct line column) never read taken says = no_text all mid new marked delivered _ never read taken says
+no_plan all mid new marked delivered (Unfinished line) never read taken says = no_text all mid new marked delivered _ never read taken says
+no_plan all mid new marked delivered (TextAfter line) never read taken says = no_text all mid new marked delivered _ never read taken says
+no_plan all mid new marked delivered ReadFailed never read taken says = tt
+no_plan all mid new marked delivered OutOfMemory never read taken says = tt
 
 marked_in : (o : Option (List ℕ)) (text : List ℕ) → IfSome o (λ all. text ≡ all) → BeginsWith (mark_line true) text → IfSome o (BeginsWith (mark_line true))
 marked_in None text whole begins = tt
 marked_in (Some all) text whole begins = subst (BeginsWith (mark_line true)) whole begins
 
 -- a text with the mark begins with it
-pub has_mark : {F : Type 0} (remaining : F → Option (List ℕ)) (file : F) (marked : Bool) (p : Plan) → marked ≡ true → IsKeptIn remaining file marked p → HasMark remaining file
-has_mark remaining file marked p is kept =
-    let as_marked = subst (λ m. IsKeptIn remaining file m p) is kept in
-    marked_in (remaining file) as_marked.text as_marked.whole (as_marked.says.0, as_marked.says.1)
+pub has_mark : (all : Option (List ℕ)) (marked : Bool) (p : Plan) → marked ≡ true → IsKeptIn all marked p → HasMark true all
+has_mark all marked p is kept =
+    let as_marked = subst (λ m. IsKeptIn all m p) is kept in
+    marked_in all as_marked.text as_marked.whole (as_marked.says.0, as_marked.says.1)
 
 -- why a kept plan doesn't let the plan at hand by
-pub not_let_by : {F : Type 0} (remaining : F → Option (List ℕ)) (file : F) (kept : KeptPlan) (p : Plan) (has_record : Bool) (fault : AgentFault)
-    → IsKeptIn remaining file kept.is_marked kept.plan → IsNoTaskFor kept p has_record fault → IsNotLetBy remaining p has_record fault
-not_let_by remaining file kept p has_record TapeEmptied is why = (why.1, (file, has_mark remaining file kept.is_marked kept.plan why.0 is))
-not_let_by remaining file kept p has_record (OtherPlan apart) is why =
-    record { file = file; marked = kept.is_marked; kept = kept.plan; is_kept = is; is_other = why }
-not_let_by remaining file kept p has_record PlanDamaged is why = absurd why
-not_let_by remaining file kept p has_record NoTape is why = absurd why
-not_let_by remaining file kept p has_record OpenFailed is why = absurd why
-not_let_by remaining file kept p has_record TapeExists is why = absurd why
-not_let_by remaining file kept p has_record (File fault) is why = absurd why
-not_let_by remaining file kept p has_record (Planned fault) is why = absurd why
-not_let_by remaining file kept p has_record (Tape fault) is why = absurd why
-not_let_by remaining file kept p has_record (Dialogue fault) is why = absurd why
+pub not_let_by : (WasDone : FileDeed → Type 0) (all : Option (List ℕ)) (kept : KeptPlan) (p : Plan) (has_record : Bool) (fault : AgentFault)
+    → WasDone (opens_file all) → IsKeptIn all kept.is_marked kept.plan → IsNoTaskFor kept p has_record fault → IsNotLetBy WasDone p has_record fault
+not_let_by WasDone all kept p has_record TapeEmptied done is why = (why.1, (all, done, has_mark all kept.is_marked kept.plan why.0 is))
+not_let_by WasDone all kept p has_record (OtherPlan apart) done is why =
+    record { all = all; found = done; marked = kept.is_marked; kept = kept.plan; is_kept = is; is_other = why }
+not_let_by WasDone all kept p has_record PlanDamaged done is why = absurd why
+not_let_by WasDone all kept p has_record NoTape done is why = absurd why
+not_let_by WasDone all kept p has_record OpenFailed done is why = absurd why
+not_let_by WasDone all kept p has_record TapeExists done is why = absurd why
+not_let_by WasDone all kept p has_record (File fault) done is why = absurd why
+not_let_by WasDone all kept p has_record (Planned fault) done is why = absurd why
+not_let_by WasDone all kept p has_record (Tape fault) done is why = absurd why
+not_let_by WasDone all kept p has_record (Dialogue fault) done is why = absurd why
 
 -- and why nothing was read of it
-pub not_read : {F : Type 0} (remaining : F → Option (List ℕ)) (file : F) (p : Plan) (has_record : Bool) (fault : AgentFault)
-    → IsNotRead remaining file fault → IsNotLetBy remaining p has_record fault
-not_read remaining file p has_record PlanDamaged why = (file, why)
-not_read remaining file p has_record (File fault) why = why
-not_read remaining file p has_record TapeEmptied why = absurd why
-not_read remaining file p has_record (OtherPlan apart) why = absurd why
-not_read remaining file p has_record NoTape why = absurd why
-not_read remaining file p has_record OpenFailed why = absurd why
-not_read remaining file p has_record TapeExists why = absurd why
-not_read remaining file p has_record (Planned fault) why = absurd why
-not_read remaining file p has_record (Tape fault) why = absurd why
-not_read remaining file p has_record (Dialogue fault) why = absurd why
+pub not_read : (WasDone : FileDeed → Type 0) (all : Option (List ℕ)) (p : Plan) (has_record : Bool) (fault : AgentFault)
+    → WasDone (opens_file all) → IsNotRead all fault → IsNotLetBy WasDone p has_record fault
+not_read WasDone all p has_record PlanDamaged done why = (all, done, why)
+not_read WasDone all p has_record (File fault) done why = why
+not_read WasDone all p has_record TapeEmptied done why = absurd why
+not_read WasDone all p has_record (OtherPlan apart) done why = absurd why
+not_read WasDone all p has_record NoTape done why = absurd why
+not_read WasDone all p has_record OpenFailed done why = absurd why
+not_read WasDone all p has_record TapeExists done why = absurd why
+not_read WasDone all p has_record (Planned fault) done why = absurd why
+not_read WasDone all p has_record (Tape fault) done why = absurd why
+not_read WasDone all p has_record (Dialogue fault) done why = absurd why
+
+-- what is still to be done where a plan is kept that is the one at hand, or not
+pub due_of : (WasDone : FileDeed → Type 0) (p : Plan) (has_record : Bool) (task : PlanTask) → IsKeptTask WasDone p has_record task → IsDueTask WasDone Kept p task
+due_of WasDone p has_record task h = λ other. (h.0, h.1, (h.2.0.is_marked, subst (λ q. IsKeptIn h.0 h.2.0.is_marked q) (sym (h.2.2.same other)) h.2.1))
+
+-- where that is done, the plan at hand is kept
+put_or_there : (WasDone : FileDeed → Type 0) (t : Terms) (p : Plan) (has_record : Bool) (task : PlanTask) → t ≡ Kept_terms p → IsDueTask WasDone Kept p task
+    → IsTaskDone WasDone t has_record task → IsPlanKept WasDone Kept p
+put_or_there WasDone t p has_record Write is due done = inl (has_record, subst (λ k. IsTaskDone WasDone k has_record Write) is done)
+put_or_there WasDone t p has_record Nothing is due done = inr (due (λ same. cc))
+put_or_there WasDone t p has_record Sync is due done = inr (due (λ same. cc))
+put_or_there WasDone t p has_record Mark is due done = inr (due (λ same. cc))
+
+pub plan_kept : (WasDone : FileDeed → Type 0) (claim : TapeClaim) (t : Terms) (p : Plan) (has_record : Bool) (task : PlanTask) → IsTermsFor claim p t
+    → IsDueTask WasDone claim p task → IsTaskDone WasDone t has_record task → IsPlanKept WasDone claim p
+plan_kept WasDone Any t p has_record task is due done = tt
+plan_kept WasDone New t p has_record task is due done =
+    inl (has_record, subst (λ k. IsTaskDone WasDone k has_record Write) is (subst (IsTaskDone WasDone t has_record) due done))
+plan_kept WasDone Kept t p has_record task is due done = put_or_there WasDone t p has_record task is due done
+
+kept_of : Plan → Terms → Plan
+kept_of other (Kept_terms p) = p
+kept_of other t = other
+
+-- and where the terms are to keep a plan
+pub due_on : (WasDone : FileDeed → Type 0) (t : Terms) (q p : Plan) (task : PlanTask) → t ≡ Kept_terms q → IsTermsFor (claim_of t) p t → IsDueTask WasDone Kept q task
+    → IsDueTask WasDone (claim_of t) p task
+unfolding kept_of
+due_on WasDone Any_terms q p task is on due = cc
+due_on WasDone (New_terms r) q p task is on due = cc
+due_on WasDone (Kept_terms r) q p task is on due = λ other. subst (IsThere WasDone) (ap (kept_of q) (sym is ∙ on)) (due other)

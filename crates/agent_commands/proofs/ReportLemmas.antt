@@ -20,7 +20,7 @@ use Rattle.event_text.specs.ReplyText.{reply_line}
 use Rattle.robot.specs.FileTape.{file_fault_of}
 use Rattle.robot.specs.declared.file_tape.FileTapeFault.{FileTapeFault}
 use Rattle.robot.specs.declared.file_tape.FileTapeFault.TheVariants as file_fault
-use Rattle.agent_commands.specs.TapeCommand.{IsNotShown, IsOpenedOn, IsShown, records_line, tape_of_bytes}
+use Rattle.agent_commands.specs.TapeCommand.{IsNotShown, IsOpenedOn, IsReadWhole, IsShown, records_line, tape_of_bytes}
 use Rattle.agent_commands.specs.Code.Reports.{IsImageOf, IsNoImage, IsReported, IsReportOf, outcome_of, standing_of}
 use Rattle.agent_commands.specs.declared.agent_fault.AgentFault.{AgentFault}
 use Rattle.agent_commands.specs.declared.agent_fault.AgentFault.TheVariants.{File, Tape}
@@ -39,7 +39,7 @@ pub not_taken : {T : Type 0} (remaining : T → Option (List ℕ)) (table : Time
     → Some n ≡ option_map moves (track_of table i) → IsNoImage remaining (20 * n) old new f → IsNotShown remaining table i old new (File f)
 not_taken remaining table i n old new file_fault.TooLong is why =
     let t = has_track (track_of table i) n is in
-    record { track = t.0; is_track = t.1; bytes = why.0; consumed = why.1; longer = subst (λ (m : ℕ). 20 * m + 10 ≤ length why.0) t.2 why.2 }
+    record { track = t.0; is_track = t.1; bytes = why.0; front = why.1; longer = subst (λ (m : ℕ). 20 * m + 10 ≤ length why.0) t.2 why.2 }
 not_taken remaining table i n old new file_fault.TapeFailed is why = let t = has_track (track_of table i) n is in ((t.0, t.1), why)
 not_taken remaining table i n old new file_fault.OutOfMemory is why = let t = has_track (track_of table i) n is in (t.0, t.1)
 not_taken remaining table i n old new file_fault.InUse is why = absurd why
@@ -77,7 +77,7 @@ is_shown remaining table i n old new image a r is of opened report =
     let stands : standing_of r ≡ reply_line (stood (held_by_tape t.0 s) (finished_moves s))
     = ap₂ (λ h d. reply_line (stood h d)) (report.holds.2 ∙ ap (λ track. held_by_tape track s) same) report.is_done in
     let torn : r.torn ≡ length of.bytes - record_length * s.records = report.torn ∙ ap (λ (m : ℕ). m - record_length * s.records) of.count in
-    let opened_on : IsOpenedOn remaining table i old new of.bytes t.0 s = record {
+    let opened_on : IsOpenedOn (IsReadWhole remaining old new) table i of.bytes t.0 s = record {
       is_track = t.1;
       whole = of.whole;
       image = image.tape;

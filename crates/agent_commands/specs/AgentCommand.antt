@@ -25,7 +25,11 @@ use Rattle.tape_claim.specs.declared.TapeClaim.TheVariants.{Any, New, Kept}
 use Rattle.ending.specs.declared.status.Status.TheVariants.{Done, Failure}
 use Rattle.ending.specs.Ending.{End, answered_with, gave_up}
 use Rattle.agent_commands.specs.FaultWords.{agent_fault_words}
-use Rattle.agent_commands.specs.KeptPlan.{HasMark, HasNoPlan, IsAkin, IsKeptIn, IsOtherPlan}
+use Rattle.agent_commands.specs.FileDeeds.{FileDeed, FindsFile}
+use Rattle.agent_commands.specs.FileDeeds.FileDeed.{finds_none, cannot_open, opens_file}
+use Rattle.agent_commands.specs.FileDeeds.FileDeed.{keeps_name}
+use Rattle.agent_commands.specs.KeptPlan.{HasMark, HasNoPlan, IsAkin, IsFreeBeside, IsKeptIn}
+use Rattle.agent_commands.specs.KeptPlan.{IsOtherPlan, IsPutBeside, IsThere}
 use Rattle.agent_commands.specs.declared.agent_fault.AgentFault.{AgentFault}
 use Rattle.agent_commands.specs.declared.agent_fault.AgentFault.TheVariants.{Planned}
 use Rattle.agent_commands.specs.declared.agent_fault.AgentFault.TheVariants.{OpenFailed}
@@ -43,43 +47,56 @@ abbrev pub room_of : Track → ℕ
 room_of track = 2 * record_length * moves track
 
 -- A tape is the image of some file, as it was opened, with room for two records a move of the
--- agent. Which file was opened no clause can say.
-abbrev pub IsTapeOf : {F : Type 0} → (F → Option (List ℕ)) → Timetable → ℕ → FileTape F → Type 0
-IsTapeOf {F} remaining tt i tape =
+-- agent.
+abbrev pub IsTapeOf : {F : Type 0} → (F → Option (List ℕ)) → (FileDeed → Type 0) → Timetable → ℕ
+    → FileTape F → Type 0
+IsTapeOf {F} remaining WasDone tt i tape =
     (track : Track) × (track_of tt i ≡ Some track)
-    × ((file : F) × IsImage remaining file (room_of track) tape)
+    × ((file : F) × WasDone (opens_file (remaining file))
+    × IsImage remaining file (room_of track) tape)
 
 -- Beside a tape a file had a plan to which that at hand is akin, and it says that a record was
--- stored only where the tape has one. Which file was opened no clause can say.
-pub record IsBeside {F : Type 0} (remaining : F → Option (List ℕ)) (p : Plan)
+-- stored only where the tape has one.
+pub record IsBeside {F : Type 0} (WasDone : FileDeed → Type 0) (p : Plan)
     (tape : FileTape F) : Type 0 where
-  pub file : F
+  pub all : Option (List ℕ)
+  pub found : WasDone (opens_file all)
   pub marked : Bool
   pub kept : Plan
-  pub is_kept : IsKeptIn remaining file marked kept
+  pub is_kept : IsKeptIn all marked kept
   pub is_akin : IsAkin kept p
   pub has_record : marked ≡ true → record_length ≤ length (file_state tape).contents
 
--- what is claimed of a tape: a new one has no whole record, and its file is synced; one that was
--- kept belongs to the plan at hand
-abbrev pub IsClaimed : {F : Type 0} → (F → Option (List ℕ)) → TapeClaim → Plan → FileTape F → Type 0
-IsClaimed remaining Any p tape = Unit {0}
-IsClaimed remaining New p tape =
-    (length (file_state tape).contents < record_length) × (tape.disk.synced ≡ true)
-IsClaimed remaining Kept p tape = IsBeside remaining p tape
+-- the tape has a record, or its name is kept
+abbrev pub IsNamed : {F : Type 0} → (FileDeed → Type 0) → FileTape F → Type 0
+IsNamed WasDone tape = length (file_state tape).contents < record_length → WasDone keeps_name
+
+-- what is claimed of a tape: a new one has no whole record, beside it no file says that it ever had
+-- one, and its file is synced; one that was kept belongs to the plan at hand
+abbrev pub IsClaimed : {F : Type 0} → (FileDeed → Type 0) → TapeClaim → Plan → FileTape F → Type 0
+IsClaimed WasDone Any p tape = IsNamed WasDone tape
+IsClaimed WasDone New p tape =
+    (length (file_state tape).contents < record_length) × IsFreeBeside WasDone
+    × (tape.disk.synced ≡ true) × WasDone keeps_name
+IsClaimed WasDone Kept p tape = IsBeside WasDone p tape × IsNamed WasDone tape
+
+-- the file beside a tape of which something is claimed has the plan at hand: it was put there, or
+-- found there
+abbrev pub IsPlanKept : (FileDeed → Type 0) → TapeClaim → Plan → Type 0
+IsPlanKept WasDone Any p = Unit {0}
+IsPlanKept WasDone claim p = IsPutBeside WasDone p ⊎ IsThere WasDone p
 
 -- Why the plan beside a tape of which something is claimed doesn't let it be taken: it is none; it
 -- says that a record was stored on a tape that has none; or that at hand is another, beside one
 -- that was kept.
 abbrev pub IsNotBeside
-    : {F : Type 0} → (F → Option (List ℕ)) → TapeClaim → Plan → FileTape F → AgentFault → Type 0
-IsNotBeside {F} remaining claim p tape PlanDamaged =
-    (claim ≢ Any) × ((file : F) × HasNoPlan remaining file)
-IsNotBeside {F} remaining claim p tape TapeEmptied =
+    : {F : Type 0} → (FileDeed → Type 0) → TapeClaim → Plan → FileTape F → AgentFault → Type 0
+IsNotBeside WasDone claim p tape PlanDamaged = (claim ≢ Any) × FindsFile WasDone HasNoPlan
+IsNotBeside WasDone claim p tape TapeEmptied =
     (claim ≢ Any) × (length (file_state tape).contents < record_length)
-    × ((file : F) × HasMark remaining file)
-IsNotBeside {F} remaining claim p tape (OtherPlan apart) = (claim ≡ Kept) × IsOtherPlan remaining p
-IsNotBeside {F} remaining claim p tape _ = ⊥
+    × FindsFile WasDone (HasMark true)
+IsNotBeside WasDone claim p tape (OtherPlan apart) = (claim ≡ Kept) × IsOtherPlan WasDone p
+IsNotBeside WasDone claim p tape _ = ⊥
 
 -- the timetable has the agent
 abbrev pub HasAgent : Timetable → ℕ → Type 0
@@ -87,63 +104,71 @@ HasAgent tt i = (track : Track) × (track_of tt i ≡ Some track)
 
 -- no file was made for a new tape, since beside it there is no such text, or one that says that a
 -- record was stored
-abbrev pub IsNotMade : {F : Type 0} → (F → Option (List ℕ)) → TapeClaim → AgentFault → Type 0
-IsNotMade {F} remaining claim PlanDamaged = (claim ≡ New) × ((file : F) × HasNoPlan remaining file)
-IsNotMade {F} remaining claim TapeEmptied = (claim ≡ New) × ((file : F) × HasMark remaining file)
-IsNotMade {F} remaining claim _ = ⊥
+abbrev pub IsNotMade : (FileDeed → Type 0) → TapeClaim → AgentFault → Type 0
+IsNotMade WasDone claim PlanDamaged = (claim ≡ New) × FindsFile WasDone HasNoPlan
+IsNotMade WasDone claim TapeEmptied = (claim ≡ New) × FindsFile WasDone (HasMark true)
+IsNotMade WasDone claim _ = ⊥
 
 -- a tape was opened that the plan beside it doesn't let be taken, or a new one was not made for it
 abbrev pub IsUnfit
-    : {F : Type 0} → (F → Option (List ℕ)) → TapeClaim → Plan → Timetable → ℕ → AgentFault → Type 0
-IsUnfit {F} remaining claim p tt i fault =
-    ((tape : FileTape F) × IsTapeOf remaining tt i tape × IsNotBeside remaining claim p tape fault)
-    ⊎ IsNotMade remaining claim fault
+    : {F : Type 0} → (F → Option (List ℕ)) → (FileDeed → Type 0) → TapeClaim → Plan → Timetable
+    → ℕ → AgentFault → Type 0
+IsUnfit {F} remaining WasDone claim p tt i fault =
+    ((tape : FileTape F) × IsTapeOf remaining WasDone tt i tape
+    × IsNotBeside WasDone claim p tape fault)
+    ⊎ IsNotMade WasDone claim fault
 
 -- Why there is no tape. Only a file with ten bytes or more behind the room is too long; only a new
 -- tape must have no whole record, and only one that was kept must be there, with its plan.
 abbrev pub IsNoTape
-    : {F : Type 0} → (F → Option (List ℕ)) → TapeClaim → Plan → Timetable → ℕ → AgentFault → Type 0
-IsNoTape {F} remaining claim p tt i (Tape NoSuchAgent) = track_of tt i ≡ None
-IsNoTape {F} remaining claim p tt i OpenFailed = HasAgent tt i
-IsNoTape {F} remaining claim p tt i TapeExists =
-    (claim ≡ New) × ((tape : FileTape F) × IsTapeOf remaining tt i tape
+    : {F : Type 0} → (F → Option (List ℕ)) → (FileDeed → Type 0) → TapeClaim → Plan → Timetable
+    → ℕ → AgentFault → Type 0
+IsNoTape {F} remaining WasDone claim p tt i (Tape NoSuchAgent) = track_of tt i ≡ None
+IsNoTape {F} remaining WasDone claim p tt i OpenFailed = HasAgent tt i × WasDone cannot_open
+IsNoTape {F} remaining WasDone claim p tt i TapeExists =
+    (claim ≡ New) × ((tape : FileTape F) × IsTapeOf remaining WasDone tt i tape
     × (record_length ≤ length (file_state tape).contents))
-IsNoTape {F} remaining claim p tt i NoTape = (claim ≡ Kept) × HasAgent tt i
-IsNoTape {F} remaining claim p tt i PlanDamaged = IsUnfit remaining claim p tt i PlanDamaged
-IsNoTape {F} remaining claim p tt i TapeEmptied = IsUnfit remaining claim p tt i TapeEmptied
-IsNoTape {F} remaining claim p tt i (OtherPlan apart) =
-    IsUnfit remaining claim p tt i (OtherPlan apart)
-IsNoTape {F} remaining claim p tt i (File TooLong) =
+IsNoTape {F} remaining WasDone claim p tt i NoTape =
+    (claim ≡ Kept) × HasAgent tt i × WasDone finds_none
+IsNoTape {F} remaining WasDone claim p tt i PlanDamaged =
+    IsUnfit remaining WasDone claim p tt i PlanDamaged
+IsNoTape {F} remaining WasDone claim p tt i TapeEmptied =
+    IsUnfit remaining WasDone claim p tt i TapeEmptied
+IsNoTape {F} remaining WasDone claim p tt i (OtherPlan apart) =
+    IsUnfit remaining WasDone claim p tt i (OtherPlan apart)
+IsNoTape {F} remaining WasDone claim p tt i (File TooLong) =
     (track : Track) × (track_of tt i ≡ Some track)
-    × ((file : F) × IfSome (remaining file)
-    (λ bytes. room_of track + record_length ≤ length bytes))
-IsNoTape {F} remaining claim p tt i (File fault) = HasAgent tt i
-IsNoTape {F} remaining claim p tt i _ = ⊥
+    × ((file : F) × WasDone (opens_file (remaining file))
+    × IfSome (remaining file) (λ bytes. room_of track + record_length ≤ length bytes))
+IsNoTape {F} remaining WasDone claim p tt i (File fault) = HasAgent tt i
+IsNoTape {F} remaining WasDone claim p tt i _ = ⊥
 
--- the agent was opened on such a tape, of which the claim holds
-abbrev pub IsOnTape : {F : Type 0} → (F → Option (List ℕ)) → TapeClaim → Plan → Timetable → ℕ
-    → AgentOn (FileTape F) → Type 0
-IsOnTape {F} remaining claim p tt i agent =
-    (tape : FileTape F) × IsTapeOf remaining tt i tape × IsClaimed remaining claim p tape
-    × IsOpened file_state IsFileRead tt i tape agent
+-- the agent was opened on such a tape, of which the claim holds, and the plan at hand is kept
+abbrev pub IsOnTape : {F : Type 0} → (F → Option (List ℕ)) → (FileDeed → Type 0) → TapeClaim
+    → Plan → Timetable → ℕ → AgentOn (FileTape F) → Type 0
+IsOnTape {F} remaining WasDone claim p tt i agent =
+    (tape : FileTape F) × IsTapeOf remaining WasDone tt i tape × IsClaimed WasDone claim p tape
+    × IsOpened file_state IsFileRead tt i tape agent × IsPlanKept WasDone claim p
 
 -- A tape was opened of which the claim holds, and was refused for this fault, with what it had.
-pub record IsRefusedTape {F : Type 0} (remaining : F → Option (List ℕ)) (claim : TapeClaim)
-    (p : Plan) (tt : Timetable) (i : ℕ) (fault : OpenFault) : Type 0 where
+pub record IsRefusedTape {F : Type 0} (remaining : F → Option (List ℕ))
+    (WasDone : FileDeed → Type 0) (claim : TapeClaim) (p : Plan) (tt : Timetable) (i : ℕ)
+    (fault : OpenFault) : Type 0 where
   pub tape : FileTape F
-  pub is_tape : IsTapeOf remaining tt i tape
-  pub claimed : IsClaimed remaining claim p tape
+  pub is_tape : IsTapeOf remaining WasDone tt i tape
+  pub claimed : IsClaimed WasDone claim p tape
   pub after : FileTape F
   pub refused : IsRefused file_state IsFileRead tt i tape after fault
   pub kept : IsKept (file_state tape) (file_state after)
 
 -- why the agent was not opened: there is no tape, or it was refused
 abbrev pub IsNotOnTape
-    : {F : Type 0} → (F → Option (List ℕ)) → TapeClaim → Plan → Timetable → ℕ → AgentFault → Type 0
-IsNotOnTape remaining claim p tt i fault =
-    IsNoTape remaining claim p tt i fault
+    : {F : Type 0} → (F → Option (List ℕ)) → (FileDeed → Type 0) → TapeClaim → Plan → Timetable
+    → ℕ → AgentFault → Type 0
+IsNotOnTape remaining WasDone claim p tt i fault =
+    IsNoTape remaining WasDone claim p tt i fault
     ⊎ ((refusal : OpenFault) × (fault ≡ Tape refusal)
-    × IsRefusedTape remaining claim p tt i refusal)
+    × IsRefusedTape remaining WasDone claim p tt i refusal)
 
 -- what others say of a tape is heeded where it was kept: a new one has nothing that anybody could
 -- have heard
@@ -159,13 +184,14 @@ told_of_dialogue (Err fault) = Err (Dialogue fault)
 -- The agent was opened on its tape and then led a dialogue, or it was not opened, and then neither
 -- input nor output were touched.
 pub record Converses
-    {F I W : Type 0} (remaining : F → Option (List ℕ)) (input_left : I → Option (List ℕ))
+    {F I W : Type 0} (remaining : F → Option (List ℕ)) (WasDone : FileDeed → Type 0)
+    (input_left : I → Option (List ℕ))
     (contents : W → Option (List ℕ))
     (claim : TapeClaim) (p : Plan) (tt : Timetable) (i : ℕ) (old_in new_in : Counted I)
     (old_out new_out : Counted W) (result : Result Unit AgentFault) : Type 0 where
   pub opened : Result (AgentOn (FileTape F)) AgentFault
-  pub opens : MatchResult opened (IsOnTape remaining claim p tt i)
-      (IsNotOnTape remaining claim p tt i)
+  pub opens : MatchResult opened (IsOnTape remaining WasDone claim p tt i)
+      (IsNotOnTape remaining WasDone claim p tt i)
   pub ends : MatchResult opened
       (λ agent. (answer : Result Unit TalkFault) × (after : AgentOn (FileTape F))
       × Talks input_left contents file_state (heeds claim) tt old_in new_in old_out new_out agent
@@ -175,7 +201,8 @@ pub record Converses
 -- The map and the plan were read and the plan was checked; where it is valid, the agent answered,
 -- and else neither input nor output were touched.
 pub record Serves
-    {F M P I W : Type 0} (remaining : F → Option (List ℕ)) (map_left : M → Option (List ℕ))
+    {F M P I W : Type 0} (remaining : F → Option (List ℕ)) (WasDone : FileDeed → Type 0)
+    (map_left : M → Option (List ℕ))
     (plan_left : P → Option (List ℕ))
     (input_left : I → Option (List ℕ)) (contents : W → Option (List ℕ)) (claim : TapeClaim) (i : ℕ)
     (old_map new_map : Counted M) (old_plan new_plan : Counted P)
@@ -184,7 +211,8 @@ pub record Serves
   pub read : Result PlanAtHand PlannedFault
   pub reads : ReadsAtHand map_left plan_left old_map new_map old_plan new_plan read
   pub ends : MatchResult read
-      (λ it. Converses remaining input_left contents claim it.plan it.dependencies i old_in new_in
+      (λ it. Converses remaining WasDone input_left contents claim it.plan it.dependencies i old_in
+      new_in
       old_out new_out result)
       (λ fault. (result ≡ Err (Planned fault)) × (new_in ≡ old_in) × (new_out ≡ old_out))
 
@@ -198,12 +226,14 @@ end_of_agent (Err fault) = gave_up (agent_fault_words fault)
 
 -- The texts were read and the agent answered, and the command ended by what that came to.
 pub record AnswersAgent
-    {F M P I W : Type 0} (remaining : F → Option (List ℕ)) (map_left : M → Option (List ℕ))
+    {F M P I W : Type 0} (remaining : F → Option (List ℕ)) (WasDone : FileDeed → Type 0)
+    (map_left : M → Option (List ℕ))
     (plan_left : P → Option (List ℕ))
     (input_left : I → Option (List ℕ)) (contents : W → Option (List ℕ)) (claim : TapeClaim) (i : ℕ)
     (old_map new_map : Counted M) (old_plan new_plan : Counted P) (old_in new_in : Counted I)
     (old_out new_out : Counted W) (end : End) : Type 0 where
   pub answer : Result Unit AgentFault
-  pub serves : Serves remaining map_left plan_left input_left contents claim i old_map new_map
+  pub serves : Serves remaining WasDone map_left plan_left input_left contents claim i old_map
+      new_map
       old_plan new_plan old_in new_in old_out new_out answer
   pub ends : end ≡ end_of_agent answer

@@ -3,6 +3,8 @@
 
 -- the words of why an agent does not answer its input to the end
 pub mod FaultWords
+-- what is done to files
+pub mod FileDeeds
 -- the plan beside a tape
 pub mod KeptPlan
 -- what `mapf agent` does and answers

@@ -52,51 +52,49 @@ pub record IsReadWhole {T : Type 0} (remaining : T → Option (List ℕ)) (old n
   pub is_end : IsAtEnd (remaining (counted_inner new))
   pub failures : failures_of new ≡ failures_of old
 
--- The file was read whole, and an agent is opened on its bytes, as it would be to go on, in this
--- state.
-pub record IsOpenedOn {T : Type 0} (remaining : T → Option (List ℕ)) (tt : Timetable) (i : ℕ)
-    (old new : Counted T) (bytes : List ℕ) (track : Track) (s : State) : Type 0 where
+-- An agent is opened on the whole bytes of a file, as it would be to go on, in this state.
+pub record IsOpenedOn (Whole : List ℕ → Type 0) (tt : Timetable) (i : ℕ) (bytes : List ℕ)
+    (track : Track) (s : State) : Type 0 where
   pub is_track : track_of tt i ≡ Some track
-  pub whole : IsReadWhole remaining old new bytes
+  pub whole : Whole bytes
   pub image : MemTape
   pub is_image : mem_state image ≡ tape_of_bytes (room_of track) bytes
   pub agent : AgentOn MemTape
   pub opened : IsOpened mem_state mem_reads tt i image agent
   pub is_state : s ≡ state_of mem_state agent
 
--- the text says where it is
+-- the file was read whole, and the text says where the agent is
 abbrev pub IsShown
     : {T : Type 0} → (T → Option (List ℕ)) → Timetable → ℕ → Counted T → Counted T → List ℕ → Type 0
 IsShown remaining tt i old new text =
     (bytes : List ℕ) × (track : Track) × (s : State)
-    × IsOpenedOn remaining tt i old new bytes track s × (text ≡ tape_text track s bytes)
+    × IsOpenedOn (IsReadWhole remaining old new) tt i bytes track s
+    × (text ≡ tape_text track s bytes)
 
--- it has so many records
-abbrev pub HasRecords
-    : {T : Type 0} → (T → Option (List ℕ)) → Timetable → ℕ → Counted T → Counted T → ℕ → Type 0
-HasRecords remaining tt i old new records =
-    (bytes : List ℕ) × (track : Track) × (s : State)
-    × IsOpenedOn remaining tt i old new bytes track s × (records ≡ s.records)
+-- the file has so many records
+abbrev pub HasRecords : (List ℕ → Type 0) → Timetable → ℕ → ℕ → Type 0
+HasRecords Whole tt i records =
+    (bytes : List ℕ) × (track : Track) × (s : State) × IsOpenedOn Whole tt i bytes track s
+    × (records ≡ s.records)
 
--- the file was read whole, and no agent is opened on its bytes
-pub record IsRefusedImage {T : Type 0} (remaining : T → Option (List ℕ)) (tt : Timetable) (i : ℕ)
-    (old new : Counted T) (Refused : MemTape → MemTape → Type 0) : Type 0 where
+-- no agent is opened on the whole bytes of a file
+pub record IsRefusedImage (Whole : List ℕ → Type 0) (tt : Timetable) (i : ℕ)
+    (Refused : MemTape → MemTape → Type 0) : Type 0 where
   pub track : Track
   pub is_track : track_of tt i ≡ Some track
   pub bytes : List ℕ
-  pub whole : IsReadWhole remaining old new bytes
+  pub whole : Whole bytes
   pub image : MemTape
   pub is_image : mem_state image ≡ tape_of_bytes (room_of track) bytes
   pub after : MemTape
   pub refused : Refused image after
 
 -- the file has ten bytes or more behind the room of the agent's tape
-pub record IsTooLong {T : Type 0} (remaining : T → Option (List ℕ)) (tt : Timetable) (i : ℕ)
-    (old new : Counted T) : Type 0 where
+pub record IsTooLong (Front : List ℕ → Type 0) (tt : Timetable) (i : ℕ) : Type 0 where
   pub track : Track
   pub is_track : track_of tt i ≡ Some track
   pub bytes : List ℕ
-  pub consumed : Consumes (remaining (counted_inner old)) (remaining (counted_inner new)) bytes
+  pub front : Front bytes
   pub longer : room_of track + record_length ≤ length bytes
 
 -- why nothing is shown of a file
@@ -104,9 +102,10 @@ abbrev pub IsNotShown : {T : Type 0} → (T → Option (List ℕ)) → Timetable
     → AgentFault → Type 0
 IsNotShown remaining tt i old new (Tape NoSuchAgent) = (track_of tt i ≡ None) × (new ≡ old)
 IsNotShown remaining tt i old new (Tape refusal) =
-    IsRefusedImage remaining tt i old new
+    IsRefusedImage (IsReadWhole remaining old new) tt i
     (λ image after. IsRefused mem_state mem_reads tt i image after refusal)
-IsNotShown remaining tt i old new (File TooLong) = IsTooLong remaining tt i old new
+IsNotShown remaining tt i old new (File TooLong) =
+    IsTooLong (Consumes (remaining (counted_inner old)) (remaining (counted_inner new))) tt i
 IsNotShown remaining tt i old new (File TapeFailed) =
     HasAgent tt i × Rises (failures_of old) (failures_of new)
 IsNotShown remaining tt i old new (File OutOfMemory) = HasAgent tt i

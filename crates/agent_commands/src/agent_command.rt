@@ -8,6 +8,7 @@ ghost use Rattle.agent_commands.specs.AgentCommand.{AnswersAgent, Converses, Ser
 ghost use Rattle.agent_commands.specs.Code.Plans.{IsTermsFor, claim_of};
 
 use crate::agent_fault::AgentFault;
+use crate::agent_files::AgentFiles;
 use crate::agent_part::{PartAndTerms, read_part_and_terms};
 use crate::opening::open_agent;
 use agent::OpenFault;
@@ -15,13 +16,12 @@ use depgraph::{OwnPart, Part};
 use ending::{Ending, Status, conclude};
 use robot::{TalkFault, Talker, talk};
 use std::io::{Read, Write};
-use std::rt::Files;
-use tape_claim::{LockFile, TapeClaim};
+use tape_claim::TapeClaim;
 use text_io::Counted;
 
 /// As `perform` on any tape, with a fault's line on `err`. The answer is the exit status, which
 /// stays where `err` fails.
-pub fn agent_cmd<R: Files + AllocGlobal, M: Read, P: Read, I: Read, W: Write, E: Write>(
+pub fn agent_cmd<R: AgentFiles + AllocGlobal, M: Read, P: Read, I: Read, W: Write, E: Write>(
     rt: &R,
     map: &mut Counted<M>,
     plan: &mut Counted<P>,
@@ -31,11 +31,9 @@ pub fn agent_cmd<R: Files + AllocGlobal, M: Read, P: Read, I: Read, W: Write, E:
     out: &mut Counted<W>,
     err: &mut Counted<E>,
 ) -> u8
-where
-    R::File: LockFile,
     ensures { EndsAndTells
-        (AnswersAgent R.File.remaining M.remaining P.remaining I.remaining W.contents TapeClaim.Any
-        id map.old map.new plan.old plan.new
+        (AnswersAgent R.Tape.remaining R.was_done M.remaining P.remaining I.remaining W.contents
+        TapeClaim.Any id map.old map.new plan.old plan.new
         input.old input.new out.old out.new) E.contents err.old err.new result }
 {
     let seat = Seat {
@@ -62,7 +60,7 @@ pub struct Seat<'a> {
 /// no file is made. Beside a new one, and one that was kept, a file has the plan at hand by then; a
 /// kept one is refused where the plan that was kept neither is it, nor goes on from it or before
 /// it.
-pub fn perform<R: Files + AllocGlobal, M: Read, P: Read, I: Read, W: Write>(
+pub fn perform<R: AgentFiles + AllocGlobal, M: Read, P: Read, I: Read, W: Write>(
     rt: &R,
     map: &mut Counted<M>,
     plan: &mut Counted<P>,
@@ -70,9 +68,8 @@ pub fn perform<R: Files + AllocGlobal, M: Read, P: Read, I: Read, W: Write>(
     input: &mut Counted<I>,
     out: &mut Counted<W>,
 ) -> Ending
-where
-    R::File: LockFile,
-    ensures { AnswersAgent R.File.remaining M.remaining P.remaining I.remaining W.contents
+    ensures { AnswersAgent R.Tape.remaining R.was_done M.remaining P.remaining I.remaining
+    W.contents
         seat.entry.claim seat.entry.id map.old map.new
         plan.old plan.new input.old input.new out.old out.new (end_of result) }
 {
@@ -87,7 +84,7 @@ where
 }
 
 /// Reads the map and the plan, and answers for the agent, by its part of the plan alone.
-fn serve<R: Files + AllocGlobal, M: Read, P: Read, I: Read, W: Write>(
+fn serve<R: AgentFiles + AllocGlobal, M: Read, P: Read, I: Read, W: Write>(
     rt: &R,
     map: &mut Counted<M>,
     plan: &mut Counted<P>,
@@ -95,9 +92,7 @@ fn serve<R: Files + AllocGlobal, M: Read, P: Read, I: Read, W: Write>(
     input: &mut Counted<I>,
     out: &mut Counted<W>,
 ) -> Result<(), AgentFault>
-where
-    R::File: LockFile,
-    ensures { Serves R.File.remaining M.remaining P.remaining I.remaining W.contents
+    ensures { Serves R.Tape.remaining R.was_done M.remaining P.remaining I.remaining W.contents
         seat.entry.claim seat.entry.id map.old map.new plan.old plan.new input.old input.new
         out.old out.new
         result }
@@ -109,18 +104,16 @@ where
 }
 
 /// Answers for an agent. The plan at hand is gone before the first answer.
-fn converse<R: Files + AllocGlobal, I: Read, W: Write>(
+fn converse<R: AgentFiles + AllocGlobal, I: Read, W: Write>(
     rt: &R,
     found: PartAndTerms,
     path: &str,
     input: &mut Counted<I>,
     out: &mut Counted<W>,
 ) -> Result<(), AgentFault>
-where
-    R::File: LockFile,
     ensures { (p : Plan) → IsTermsFor (claim_of found.terms) p found.terms → (tt : Timetable)
         → IsPartOf tt found.own
-        → Converses R.File.remaining I.remaining W.contents (claim_of found.terms) p tt
+        → Converses R.Tape.remaining R.was_done I.remaining W.contents (claim_of found.terms) p tt
         found.own.agent input.old input.new out.old out.new result }
 {
     let PartAndTerms { own, terms } = found;

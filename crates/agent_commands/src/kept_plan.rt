@@ -1,20 +1,19 @@
 //! Whether a tape belongs to the plan at hand, and what is to be done to the file that says so.
 ghost use Rattle.std.specs.Prelude.{◌≡◌, ◌↔◌, IfErr, IfOk, IsTrue, MatchResult, OnErr};
-ghost use Rattle.agent_commands.specs.KeptPlan.{IsAkin, IsFoundBeside};
+ghost use Rattle.agent_commands.specs.KeptPlan.{IsAkin, IsFoundBeside, IsFreeBeside};
 ghost use Rattle.agent_commands.specs.Code.Parts.{IsLost};
 ghost use Rattle.agent_commands.specs.Code.Plans.{IsKeptTask, IsNoTaskFor, IsNotLetBy};
-ghost use Rattle.agent_commands.specs.Code.Plans.{IsNotMadeAnew, IsTaskFor, claim_of};
+ghost use Rattle.agent_commands.specs.Code.Plans.{IsNotMadeAnew, IsTaskDone, IsTaskFor, claim_of};
 
 use crate::agent_fault::AgentFault;
-use crate::plan_file::{
-    KeptPlan, name_beside, read_kept, read_mark, set_mark, sync_file, write_kept,
-};
-use crate::tape_files::{is_absent, keep_name, open_file, open_to_read};
+use crate::agent_files::AgentFiles;
+use crate::beside_name::{BesideName, name_beside};
+use crate::plan_file::{KeptPlan, read_kept, read_mark, write_kept};
+use crate::read_files::ReadFiles;
 use crate::terms::Terms;
 use continuing::continues;
 use plan_text::{Course, Plan};
 use robot::FileTapeFault;
-use std::rt::Files;
 use tape_claim::TapeClaim;
 use text_io::Counted;
 
@@ -33,28 +32,31 @@ pub(crate) enum PlanTask {
 
 /// Looks beside a new tape before its file is made, if there is none: a tape that is refused for
 /// what is beside it leaves no file.
-pub(crate) fn look_before_making<R: Files + AllocGlobal>(
+pub(crate) fn look_before_making<R: AgentFiles + AllocGlobal>(
     rt: &R,
     tape: &str,
     terms: &Terms,
 ) -> Result<(), AgentFault>
     ensures new { OnErr result (claim_of terms.now ≡ TapeClaim.New) }
-    ensures beside { IfErr result (IsNotMadeAnew R.File.remaining) }
+    ensures beside { IfErr result (IsNotMadeAnew R.was_done) }
 {
     match terms {
-        Terms::New(_) if is_absent(rt, tape) => look_beside_new(rt, tape),
+        Terms::New(_) if rt.is_absent(tape) => look_beside_new(rt, tape),
         _ => Ok(()),
     }
 }
 
 /// Looks at the file beside a new tape, if there is one: it is written anew unless it says that a
 /// record was stored, or is another file.
-pub(crate) fn look_beside_new<R: Files + AllocGlobal>(rt: &R, tape: &str) -> Result<(), AgentFault>
-    ensures { IfErr result (IsNotMadeAnew R.File.remaining) }
+pub(crate) fn look_beside_new<R: AgentFiles + AllocGlobal>(
+    rt: &R,
+    tape: &str,
+) -> Result<(), AgentFault>
+    ensures { MatchResult result (λ _. IsFreeBeside R.was_done) (IsNotMadeAnew R.was_done) }
 {
-    let name = name_beside(rt.alloc(), tape)?;
-    match open_file(rt, &name, TapeClaim::Kept) {
-        Ok(held) => match read_mark(&mut Counted::new(held.file))? {
+    let name = BesideName::of(rt.alloc(), tape)?;
+    match rt.open_beside(&name) {
+        Ok(file) => match read_mark(&mut Counted::new(file))? {
             Some(true) => Err(AgentFault::TapeEmptied),
             Some(false) => Ok(()),
             None => Err(AgentFault::PlanDamaged),
@@ -65,11 +67,14 @@ pub(crate) fn look_beside_new<R: Files + AllocGlobal>(rt: &R, tape: &str) -> Res
 }
 
 /// The plan beside a tape, if there is one. Its file is only read.
-pub fn plan_beside<R: Files + AllocGlobal>(rt: &R, tape: &str) -> Result<Option<Plan>, AgentFault>
-    ensures { IsFoundBeside R.File.remaining result }
+pub fn plan_beside<R: ReadFiles + AllocGlobal>(
+    rt: &R,
+    tape: &str,
+) -> Result<Option<Plan>, AgentFault>
+    ensures { IsFoundBeside R.was_done result }
 {
     let name = name_beside(rt.alloc(), tape)?;
-    match open_to_read(rt, &name) {
+    match rt.open_to_read(&name) {
         Ok(file) => Ok(Some(read_kept(rt.alloc(), &mut Counted::new(file))?.plan)),
         Err(AgentFault::NoTape) => Ok(None),
         Err(fault) => Err(fault),
@@ -77,18 +82,18 @@ pub fn plan_beside<R: Files + AllocGlobal>(rt: &R, tape: &str) -> Result<Option<
 }
 
 /// Compares the plan beside a kept tape with that at hand.
-pub(crate) fn look_beside_kept<R: Files + AllocGlobal>(
+pub(crate) fn look_beside_kept<R: AgentFiles + AllocGlobal>(
     rt: &R,
     tape: &str,
     plan: &Plan,
     has_record: bool,
 ) -> Result<PlanTask, AgentFault>
-    ensures { MatchResult result (IsKeptTask R.File.remaining plan.now has_record)
-        (IsNotLetBy R.File.remaining plan.now has_record) }
+    ensures { MatchResult result (IsKeptTask R.was_done plan.now has_record)
+        (IsNotLetBy R.was_done plan.now has_record) }
 {
-    let name = name_beside(rt.alloc(), tape)?;
-    let held = open_file(rt, &name, TapeClaim::Kept)?;
-    let kept = read_kept(rt.alloc(), &mut Counted::new(held.file))?;
+    let name = BesideName::of(rt.alloc(), tape)?;
+    let file = rt.open_beside(&name)?;
+    let kept = read_kept(rt.alloc(), &mut Counted::new(file))?;
     task_for(&kept, plan, has_record)
 }
 
@@ -142,14 +147,14 @@ fn is_same_course(one: &Course, other: &Course) -> bool
 }
 
 /// Does what is still to be done to the file beside a tape that has a record, or has none.
-pub(crate) fn keep_plan<R: Files + AllocGlobal>(
+pub(crate) fn keep_plan<R: AgentFiles + AllocGlobal>(
     rt: &R,
     tape: &str,
     terms: &Terms,
     task: PlanTask,
     has_record: bool,
 ) -> Result<(), FileTapeFault>
-    ensures { IfErr result IsLost }
+    ensures { MatchResult result (λ _. IsTaskDone R.was_done terms.now has_record task) IsLost }
 {
     if task == PlanTask::Nothing {
         return Ok(());
@@ -157,11 +162,12 @@ pub(crate) fn keep_plan<R: Files + AllocGlobal>(
     if let (PlanTask::Write, Terms::New(plan) | Terms::Kept(plan)) = (task, terms) {
         return write_kept(rt, tape, plan, has_record);
     }
-    let name = name_beside(rt.alloc(), tape)?;
+    let name = BesideName::of(rt.alloc(), tape)?;
     if task == PlanTask::Mark {
-        set_mark(rt, &name)?;
+        rt.set_mark(&name)?;
     } else {
-        sync_file(rt, &name)?;
+        rt.sync_beside(&name)?;
     }
-    keep_name(rt, tape)
+    rt.keep_name(tape)?;
+    Ok(())
 }

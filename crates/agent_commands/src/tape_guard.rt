@@ -1,9 +1,9 @@
 //! What is looked at before a record is stored, and what is noted behind the first one.
-use crate::plan_file::set_mark;
-use crate::tape_files::FileId;
+ghost use Rattle.std.specs.Prelude.{◌≡◌};
+
+use crate::agent_files::{AgentFiles, FileId};
+use crate::beside_name::BesideName;
 use robot::Guard;
-use std::fs;
-use std::rt::Files;
 
 /// Holds while a path names a file, also by links, and marks the file of the plan where a first
 /// record was stored.
@@ -13,7 +13,7 @@ pub(crate) struct TapeGuard<'a, R> {
     path: &'a str,
     file: FileId,
     /// The file of the plan, where that is still to be marked.
-    unmarked: Option<String>,
+    unmarked: Option<BesideName>,
 }
 
 impl<'a, R> TapeGuard<'a, R> {
@@ -21,8 +21,10 @@ impl<'a, R> TapeGuard<'a, R> {
         rt: &'a R,
         path: &'a str,
         file: FileId,
-        unmarked: Option<String>,
-    ) -> TapeGuard<'a, R> {
+        unmarked: Option<BesideName>,
+    ) -> TapeGuard<'a, R>
+        ensures { result.unmarked ≡ unmarked }
+    {
         TapeGuard {
             rt,
             path,
@@ -32,17 +34,21 @@ impl<'a, R> TapeGuard<'a, R> {
     }
 }
 
-impl<R: Files> Guard for TapeGuard<'_, R> {
+impl<R: AgentFiles> Guard for TapeGuard<'_, R> {
+    ghost use Rattle.agent_commands.specs.FileDeeds.FileDeed.{names_tape};
+    ghost use Rattle.agent_commands.specs.Code.Plans.{IsMarkNoted};
+
+    ghost has_allowed = { λ guard. R.was_done names_tape };
+
+    ghost has_noted = { λ old new. IsMarkNoted R.was_done old.unmarked new.unmarked };
+
     fn holds(&self) -> bool {
-        match fs::metadata(self.rt, self.path) {
-            Ok(metadata) => FileId::of(&metadata) == self.file,
-            Err(_) => false,
-        }
+        self.rt.names_tape(self.path, self.file)
     }
 
     fn take_note(&mut self) -> bool {
         if let Some(plan) = &self.unmarked {
-            if set_mark(self.rt, plan).is_err() {
+            if self.rt.set_mark(plan).is_err() {
                 return false;
             }
         }

@@ -10,7 +10,8 @@ ghost use Rattle.text_io.specs.Writing.{WritesText};
 ghost use Rattle.model.specs.Timetable.{Timetable};
 ghost use Rattle.depgraph.specs.AgentParts.{IsPartOf};
 ghost use Rattle.agent.specs.MemTape.{mem_state};
-ghost use Rattle.agent_commands.specs.TapeCommand.{HasRecords, IsNotShown, records_line};
+ghost use Rattle.agent_commands.specs.TapeCommand.{HasRecords, IsNotShown, IsReadWhole};
+ghost use Rattle.agent_commands.specs.TapeCommand.{records_line};
 ghost use Rattle.agent_commands.specs.Code.Reports.{IsReported, IsImageOf, IsNoImage};
 ghost use Rattle.agent_commands.specs.Code.Reports.{IsReportOf, standing_of, report_text};
 
@@ -72,7 +73,8 @@ pub fn read_records<T: Read>(
 ) -> Result<u32, AgentFault>
     ensures within { IfOk result (λ records. records ≤ 2 * length part.entry.needs) }
     ensures has { (tt : Timetable) → IsPartOf tt part.entry
-        → MatchResult result (HasRecords T.remaining tt part.entry.agent file.old file.new)
+        → MatchResult result
+        (HasRecords (IsReadWhole T.remaining file.old file.new) tt part.entry.agent)
         (IsNotShown T.remaining tt part.entry.agent file.old file.new) }
 {
     Ok(read_report(alloc, part, file)?.records)

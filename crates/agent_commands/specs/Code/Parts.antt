@@ -1,9 +1,11 @@
 -- What the parts of the opening of a tape file owe each other.
-use Rattle.std.specs.Prelude.{◌≡◌, ◌≤◌, ℕ, List, true, length, Option}
+use Rattle.std.specs.Prelude.{◌≡◌, ◌≤◌, true, length}
 use Rattle.model.specs.History.{record_length}
 use Rattle.model.specs.Plan.{Plan}
 use Rattle.agent.specs.Agents.{AgentOn}
 use Rattle.agent_commands.specs.AgentCommand.{IsClaimed, IsNotBeside}
+use Rattle.agent_commands.specs.FileDeeds.{FileDeed}
+use Rattle.agent_commands.specs.FileDeeds.FileDeed.{finds_none, cannot_open}
 use Rattle.agent_commands.specs.declared.agent_fault.AgentFault.{AgentFault}
 use Rattle.agent_commands.specs.declared.agent_fault.AgentFault.TheVariants.{OpenFailed}
 use Rattle.agent_commands.specs.declared.agent_fault.AgentFault.TheVariants.{TapeExists}
@@ -26,12 +28,6 @@ IsLost TapeFailed = Unit {0}
 IsLost OutOfMemory = Unit {0}
 IsLost _ = ⊥
 
--- why a tape file was not opened
-abbrev pub IsNotOpened : TapeClaim → AgentFault → Type 0
-IsNotOpened claim OpenFailed = Unit {0}
-IsNotOpened claim NoTape = claim ≡ Kept
-IsNotOpened claim _ = ⊥
-
 -- an agent over a tape in a file, whatever guards that
 abbrev pub unguarded : {F G : Type 0} → AgentOn (GuardedTape F G) → AgentOn (FileTape F)
 unguarded a = record { part = a.part; tape = a.tape.tape; heard = a.heard; broken = a.broken }
@@ -43,19 +39,19 @@ pub record IsSameTape {F : Type 0} (old new : FileTape F) : Type 0 where
 
 -- a tape is taken of which the claim holds
 abbrev pub IsTakenTape
-    : {F : Type 0} → (F → Option (List ℕ)) → TapeClaim → Plan → FileTape F → FileTape F → Type 0
-IsTakenTape remaining claim p tape taken = IsSameTape tape taken × IsClaimed remaining claim p taken
+    : {F : Type 0} → (FileDeed → Type 0) → TapeClaim → Plan → FileTape F → FileTape F → Type 0
+IsTakenTape WasDone claim p tape taken = IsSameTape tape taken × IsClaimed WasDone claim p taken
 
 -- why a tape that was opened is not taken
 abbrev pub IsNotTaken
-    : {F : Type 0} → (F → Option (List ℕ)) → TapeClaim → Plan → FileTape F → AgentFault → Type 0
-IsNotTaken remaining claim p tape TapeExists =
+    : {F : Type 0} → (FileDeed → Type 0) → TapeClaim → Plan → FileTape F → AgentFault → Type 0
+IsNotTaken WasDone claim p tape TapeExists =
     (claim ≡ New) × (record_length ≤ length (file_state tape).contents)
-IsNotTaken remaining claim p tape NoTape = claim ≡ Kept
-IsNotTaken remaining claim p tape OpenFailed = Unit {0}
-IsNotTaken remaining claim p tape (File fault) = IsLost fault
-IsNotTaken remaining claim p tape PlanDamaged = IsNotBeside remaining claim p tape PlanDamaged
-IsNotTaken remaining claim p tape TapeEmptied = IsNotBeside remaining claim p tape TapeEmptied
-IsNotTaken remaining claim p tape (OtherPlan apart) =
-    IsNotBeside remaining claim p tape (OtherPlan apart)
-IsNotTaken remaining claim p tape _ = ⊥
+IsNotTaken WasDone claim p tape NoTape = (claim ≡ Kept) × WasDone finds_none
+IsNotTaken WasDone claim p tape OpenFailed = WasDone cannot_open
+IsNotTaken WasDone claim p tape (File fault) = IsLost fault
+IsNotTaken WasDone claim p tape PlanDamaged = IsNotBeside WasDone claim p tape PlanDamaged
+IsNotTaken WasDone claim p tape TapeEmptied = IsNotBeside WasDone claim p tape TapeEmptied
+IsNotTaken WasDone claim p tape (OtherPlan apart) =
+    IsNotBeside WasDone claim p tape (OtherPlan apart)
+IsNotTaken WasDone claim p tape _ = ⊥

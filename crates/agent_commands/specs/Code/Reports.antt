@@ -41,7 +41,8 @@ outcome_of (Err fault) = Err fault
 abbrev pub IsReported : {T : Type 0} → (T → Option (List ℕ)) → Timetable → ℕ → Counted T → Counted T
     → TapeReport → Type 0
 IsReported remaining tt i old new r =
-    IsShown remaining tt i old new (report_text r) × HasRecords remaining tt i old new r.records
+    IsShown remaining tt i old new (report_text r)
+    × HasRecords (IsReadWhole remaining old new) tt i r.records
 
 -- the report of an agent of a timetable, the file of whose tape has so many bytes
 pub record IsReportOf (tt : Timetable) (a : AgentOn MemTape) (count : ℕ)

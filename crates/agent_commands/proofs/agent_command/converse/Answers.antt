@@ -22,7 +22,7 @@ returns-in_err-talk g c p on table is =
     let is_part = subst (IsPartOf table) (sym (c.in_ok-agent.ensures.part ∙ c.part.ensures)) is in
     rw (q.1, q.2) (record {
       opened = Ok (unguarded c.in_ok-agent.agent);
-      opens = subst (λ (o : AgentPart). IsOnTape g.R.File.Read.remaining (claim_of c.args.found.terms) p table o.agent (unguarded c.in_ok-agent.agent)) c.part.ensures
+      opens = subst (λ (o : AgentPart). IsOnTape g.R.Tape.Read.remaining g.R.ReadFiles.was_done (claim_of c.args.found.terms) p table o.agent (unguarded c.in_ok-agent.agent)) c.part.ensures
           (c.in_ok-agent.ensures.opened p on table (subst (IsPartOf table) (sym c.part.ensures) is));
       ends = (
         c.talk.result,
@@ -39,7 +39,7 @@ returns g c p on table is =
     let is_part = subst (IsPartOf table) (sym (c.in_ok-agent.ensures.part ∙ c.part.ensures)) is in
     record {
       opened = Ok (unguarded c.in_ok-agent.agent);
-      opens = subst (λ (o : AgentPart). IsOnTape g.R.File.Read.remaining (claim_of c.args.found.terms) p table o.agent (unguarded c.in_ok-agent.agent)) c.part.ensures
+      opens = subst (λ (o : AgentPart). IsOnTape g.R.Tape.Read.remaining g.R.ReadFiles.was_done (claim_of c.args.found.terms) p table o.agent (unguarded c.in_ok-agent.agent)) c.part.ensures
           (c.in_ok-agent.ensures.opened p on table (subst (IsPartOf table) (sym c.part.ensures) is));
       ends = (
         c.talk.result,
@@ -55,6 +55,6 @@ pub returns-in_err-agent : goal.returns-in_err-agent
 returns-in_err-agent g c p on table is =
     let q = err_from_is_err_and c.from_residual.result c.from_residual.ensures.1 in
     let is_part = subst (IsPartOf table) (sym c.part.ensures) is in
-    let not = subst (λ (o : AgentPart). IsNotOnTape g.R.File.Read.remaining (claim_of c.args.found.terms) p table o.agent c.in_err-agent.field-0.0) c.part.ensures
+    let not = subst (λ (o : AgentPart). IsNotOnTape g.R.Tape.Read.remaining g.R.ReadFiles.was_done (claim_of c.args.found.terms) p table o.agent c.in_err-agent.field-0.0) c.part.ensures
     (c.in_err-agent.ensures.opened p on table is_part) in
     rw (q.1, q.2) (record { opened = Err c.in_err-agent.field-0.0; opens = not; ends = (refl, refl, refl) })

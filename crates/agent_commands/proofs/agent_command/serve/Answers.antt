@@ -26,8 +26,8 @@ returns g c =
     record {
       read = Ok read.0;
       reads = read.1;
-      ends = subst (λ i. Converses g.R.File.Read.remaining g.I.Read.remaining g.W.Write.contents c.args.seat.claim read.0.plan read.0.dependencies i c.args.input.now
+      ends = subst (λ i. Converses g.R.Tape.Read.remaining g.R.ReadFiles.was_done g.I.Read.remaining g.W.Write.contents c.args.seat.claim read.0.plan read.0.dependencies i c.args.input.now
           c.converse.new.input c.args.out.now c.converse.new.out c.converse.result) part.1
-          (subst (λ k. Converses g.R.File.Read.remaining g.I.Read.remaining g.W.Write.contents k read.0.plan read.0.dependencies c.in-Some.found.own.agent c.args.input.now
+          (subst (λ k. Converses g.R.Tape.Read.remaining g.R.ReadFiles.was_done g.I.Read.remaining g.W.Write.contents k read.0.plan read.0.dependencies c.in-Some.found.own.agent c.args.input.now
           c.converse.new.input c.args.out.now c.converse.new.out c.converse.result) same own);
     }

@@ -2,12 +2,13 @@ use Rattle.std.proofs.Common.{inl, inr, refl}
 use Rattle.std.proofs.lemmas.Result.{err_from_is_err_and}
 use Rattle.agent_commands.specs.Code.Plans.{claim_of}
 use Rattle.agent_commands.proofs.GuardLemmas.{unguard_opened, unguard_refused}
+use Rattle.agent_commands.proofs.PlanLemmas.{plan_kept}
 use Rattle.agent_commands.proofs.TapeLemmas.{lost}
 use Rattle.agent_commands.proofs.opening.open_agent.Goals as goal
 
 pub returns-clause-opened : goal.returns-clause-opened
 returns-clause-opened g c p on table is =
-    let tape = c.in_ok-tape.ensures p on table is in
+    let tape = c.in_ok-tape.ensures.opened p on table is in
     inr (
       c.in-Err.fault,
       refl,
@@ -24,14 +25,15 @@ returns-clause-opened g c p on table is =
 pub returns-in_err-tape-clause-opened : goal.returns-in_err-tape-clause-opened
 returns-in_err-tape-clause-opened g c p on table is =
     let q = err_from_is_err_and c.from_residual.result c.from_residual.ensures.1 in
-    rw (q.1, q.2) (inl (c.in_err-tape.ensures p on table is))
+    rw (q.1, q.2) (inl (c.in_err-tape.ensures.opened p on table is))
 
 pub returns-in_err-keep_plan-in-Ok-clause-opened : goal.returns-in_err-keep_plan-in-Ok-clause-opened
 returns-in_err-keep_plan-in-Ok-clause-opened g c p on table is =
     let q = err_from_is_err_and c.from_residual-in_err-keep_plan-in-Ok.result c.from_residual-in_err-keep_plan-in-Ok.ensures.1 in
-    rw (q.1, q.2) (inl (lost g.R.File.Read.remaining (claim_of c.args.terms) p table _ _ (is.track, is.is_track) c.in_err-keep_plan-in-Ok.ensures))
+    rw (q.1, q.2) (inl (lost g.R.Tape.Read.remaining g.R.ReadFiles.was_done (claim_of c.args.terms) p table _ _ (is.track, is.is_track) c.in_err-keep_plan-in-Ok.ensures))
 
 pub returns-in-Ok-clause-opened : goal.returns-in-Ok-clause-opened
 returns-in-Ok-clause-opened g c p on table is =
-    let tape = c.in_ok-tape.ensures p on table is in
-    (c.in_ok-tape.field-0.tape.tape, tape.0, tape.1, unguard_opened table _ c.in_ok-tape.field-0.tape c.in-Ok.agent (c.in-Ok.ensures.opened table is))
+    let tape = c.in_ok-tape.ensures.opened p on table is in
+    let kept = plan_kept g.R.ReadFiles.was_done (claim_of c.args.terms) c.args.terms p _ _ on (c.in_ok-tape.ensures.due p on) c.in_ok-keep_plan-in-Ok.ensures in
+    (c.in_ok-tape.field-0.tape.tape, tape.0, tape.1, unguard_opened table _ c.in_ok-tape.field-0.tape c.in-Ok.agent (c.in-Ok.ensures.opened table is), kept)
