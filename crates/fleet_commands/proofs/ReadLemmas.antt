@@ -10,6 +10,7 @@ use Rattle.checker.specs.Checking.{IsRefusedFor}
 use Rattle.planned.specs.Planned.{IsAtHand}
 use Rattle.planned.specs.declared.planned_fault.PlannedFault.{PlannedFault}
 use Rattle.planned.specs.declared.reading.PlanAtHand.{PlanAtHand}
+use Rattle.agent_commands.specs.FileDeeds.{FileDeed}
 use Rattle.fleet_commands.specs.HandoverCommand.{AreReadAs, ReadsThen}
 use Rattle.fleet_commands.specs.AnewCommand.{IsBegunAnew, MayBeAnew}
 use Rattle.fleet_commands.specs.FoundTapes.{Found}
@@ -40,9 +41,9 @@ refused m p (plan_fault.Swap i j step) least = λ valid. valid (plan_fault.Swap 
 refused m p plan_fault.OutOfMemory least = tt
 
 -- what was asked may be done
-module _ {F : Type 0} (file_left : F → Option (List ℕ)) (without : Option ℕ) (number : ℕ) (it : PlanAtHand) (may : MayBeAnew it without number) where
+module _ (WasDone : FileDeed → Type 0) (without : Option ℕ) (number : ℕ) (it : PlanAtHand) (may : MayBeAnew it without number) where
   -- why not all are known
-  pub unknown-as : (fault : HandoverFault) → IsNotKnownBy file_left it.dependencies without fault → IsBegunAnew file_left without number it (Err fault)
+  pub unknown-as : (fault : HandoverFault) → IsNotKnownBy WasDone it.dependencies without fault → IsBegunAnew WasDone without number it (Err fault)
   unknown-as (Planned fault) known = absurd known
   unknown-as NoSuchAgent known = absurd known
   unknown-as SameNumber known = absurd known
@@ -51,9 +52,9 @@ module _ {F : Type 0} (file_left : F → Option (List ℕ)) (without : Option �
   unknown-as OutOfMemory known = tt
 
   -- what was checked is what is left
-  pub left-as : (found : List Found) (left : Plan) → AreReadAs file_left it.dependencies without found []
+  pub left-as : (found : List Found) (left : Plan) → AreReadAs WasDone it.dependencies without found []
       → left ≡ left_plan it.plan it.dependencies found without number
-      → (answer : Result Plan HandoverFault) → IsJudgedSo it.map left answer → IsBegunAnew file_left without number it answer
+      → (answer : Result Plan HandoverFault) → IsJudgedSo it.map left answer → IsBegunAnew WasDone without number it answer
   left-as found left are is (Ok p) checked = (may, (found, are, checked.0 ∙ is, subst (IsValid it.map) (sym checked.0) checked.1))
   left-as found left are is (Err (Planned fault)) checked = absurd checked
   left-as found left are is (Err NoSuchAgent) checked = absurd checked

@@ -6,6 +6,7 @@ use Rattle.model.specs.Plan.{Plan, IsValid}
 use Rattle.model.specs.Timetable.{Timetable}
 use Rattle.planned.specs.declared.reading.PlanAtHand.{PlanAtHand}
 use Rattle.ending.specs.Ending.{End}
+use Rattle.agent_commands.specs.FileDeeds.{FileDeed}
 use Rattle.fleet_commands.specs.FoundTapes.{Found, AreFoundIn}
 use Rattle.fleet_commands.specs.HandoverCommand.{AreReadAs, IsFirstUnknown, IsNotOneRun}
 use Rattle.fleet_commands.specs.HandoverCommand.{ReadsThen, EndsByPlan}
@@ -30,33 +31,33 @@ MayBeAnew it without number =
 -- or the first of these stands: there is no such agent, the number is the plan's, no agent is
 -- opened on a tape, or the tapes are not those of one run, or what is left isn't valid. Memory may
 -- be refused at any time.
-abbrev pub IsBegunAnew : {F : Type 0} → (F → Option (List ℕ)) → Option ℕ → ℕ → PlanAtHand
+abbrev pub IsBegunAnew : (FileDeed → Type 0) → Option ℕ → ℕ → PlanAtHand
     → Result Plan HandoverFault → Type 0
-IsBegunAnew file_left without number it (Ok left) =
+IsBegunAnew WasDone without number it (Ok left) =
     MayBeAnew it without number
-    × ((found : List Found) × AreReadAs file_left it.dependencies without found []
+    × ((found : List Found) × AreReadAs WasDone it.dependencies without found []
     × (left ≡ left_plan it.plan it.dependencies found without number) × IsValid it.map left)
-IsBegunAnew file_left without number it (Err NoSuchAgent) =
+IsBegunAnew WasDone without number it (Err NoSuchAgent) =
     lacks_agent it.dependencies without ≡ true
-IsBegunAnew file_left without number it (Err SameNumber) =
+IsBegunAnew WasDone without number it (Err SameNumber) =
     (lacks_agent it.dependencies without ≡ false) × (number ≡ it.plan.number)
-IsBegunAnew file_left without number it (Err (BadTape i)) =
-    MayBeAnew it without number × ((found : List Found) × AreFoundIn file_left it.dependencies found
+IsBegunAnew WasDone without number it (Err (BadTape i)) =
+    MayBeAnew it without number × ((found : List Found) × AreFoundIn WasDone it.dependencies found
     × IsFirstUnknown without found i)
-IsBegunAnew file_left without number it (Err NotOneRun) =
-    MayBeAnew it without number × (IsNotOneRun file_left it.dependencies without
-    ⊎ ((found : List Found) × AreReadAs file_left it.dependencies without found []
+IsBegunAnew WasDone without number it (Err NotOneRun) =
+    MayBeAnew it without number × (IsNotOneRun WasDone it.dependencies without
+    ⊎ ((found : List Found) × AreReadAs WasDone it.dependencies without found []
     × (IsValid it.map (left_plan it.plan it.dependencies found without number) → ⊥)))
-IsBegunAnew file_left without number it (Err OutOfMemory) = ⊤
-IsBegunAnew file_left without number it (Err _) = ⊥
+IsBegunAnew WasDone without number it (Err OutOfMemory) = ⊤
+IsBegunAnew WasDone without number it (Err _) = ⊥
 
 pub record AnswersAnew
-    {M P F W : Type 0} (map_left : M → Option (List ℕ)) (plan_left : P → Option (List ℕ))
-    (file_left : F → Option (List ℕ)) (contents : W → Option (List ℕ))
+    {M P W : Type 0} (map_left : M → Option (List ℕ)) (plan_left : P → Option (List ℕ))
+    (WasDone : FileDeed → Type 0) (contents : W → Option (List ℕ))
     (without : Option ℕ) (number : ℕ)
     (old_map new_map : Counted M) (old_plan new_plan : Counted P) (old_out new_out : Counted W)
     (end : End) : Type 0 where
   pub answer : Result Plan HandoverFault
   pub reads : ReadsThen map_left plan_left old_map new_map old_plan new_plan
-      (IsBegunAnew file_left without number) answer
+      (IsBegunAnew WasDone without number) answer
   pub ends : EndsByPlan contents old_out new_out end answer

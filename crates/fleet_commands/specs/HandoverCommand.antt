@@ -12,6 +12,7 @@ use Rattle.planned.specs.declared.reading.PlanAtHand.{PlanAtHand}
 use Rattle.ending.specs.declared.status.Status.TheVariants.{Done}
 use Rattle.ending.specs.Ending.{End, answered_with, gave_up}
 use Rattle.ending.specs.Rewriting.{EndsWriting}
+use Rattle.agent_commands.specs.FileDeeds.{FileDeed}
 use Rattle.fleet_commands.specs.FoundTapes.{Found, AreFoundIn, is_known}
 use Rattle.fleet_commands.specs.CutTimes.{IsCutTime}
 use Rattle.fleet_commands.specs.LeftPlan.{is_left_out}
@@ -42,31 +43,31 @@ pub record IsFirstUnknown (without : Option ℕ) (found : List Found) (i : ℕ) 
 
 -- the tapes were read, but for an agent that is left out all are right, and these are the lines of
 -- what shows that they are not those of one run
-abbrev pub AreReadAs : {F : Type 0} → (F → Option (List ℕ)) → Timetable → Option ℕ → List Found
+abbrev pub AreReadAs : (FileDeed → Type 0) → Timetable → Option ℕ → List Found
     → List StatusLine → Type 0
-AreReadAs file_left tt without found lines =
-    AreFoundIn file_left tt found × AreAllKnown without found
+AreReadAs WasDone tt without found lines =
+    AreFoundIn WasDone tt found × AreAllKnown without found
     × ((turns : List Turn) × AreRotations tt turns × (lines ≡ run_lines tt without turns found))
 
 -- such lines there are
-abbrev pub IsNotOneRun : {F : Type 0} → (F → Option (List ℕ)) → Timetable → Option ℕ → Type 0
-IsNotOneRun file_left tt without =
-    (found : List Found) × (lines : List StatusLine) × AreReadAs file_left tt without found lines
+abbrev pub IsNotOneRun : (FileDeed → Type 0) → Timetable → Option ℕ → Type 0
+IsNotOneRun WasDone tt without =
+    (found : List Found) × (lines : List StatusLine) × AreReadAs WasDone tt without found lines
     × (lines ≢ [])
 
 -- The tapes were read, they can be those of one run, and this is the plan cut at the time by which
 -- all is made that was begun; or no agent is opened on a tape, or the tapes are not those of one
 -- run, or memory was refused.
 abbrev pub IsHandedOver
-    : {F : Type 0} → (F → Option (List ℕ)) → PlanAtHand → Result Plan HandoverFault → Type 0
-IsHandedOver file_left it (Ok kept) =
-    (found : List Found) × (time : ℕ) × AreReadAs file_left it.dependencies None found []
+    : (FileDeed → Type 0) → PlanAtHand → Result Plan HandoverFault → Type 0
+IsHandedOver WasDone it (Ok kept) =
+    (found : List Found) × (time : ℕ) × AreReadAs WasDone it.dependencies None found []
     × IsCutTime it.dependencies found time × (kept ≡ cut_at time it.plan)
-IsHandedOver file_left it (Err (BadTape i)) =
-    (found : List Found) × AreFoundIn file_left it.dependencies found × IsFirstUnknown None found i
-IsHandedOver file_left it (Err NotOneRun) = IsNotOneRun file_left it.dependencies None
-IsHandedOver file_left it (Err OutOfMemory) = ⊤
-IsHandedOver file_left it (Err _) = ⊥
+IsHandedOver WasDone it (Err (BadTape i)) =
+    (found : List Found) × AreFoundIn WasDone it.dependencies found × IsFirstUnknown None found i
+IsHandedOver WasDone it (Err NotOneRun) = IsNotOneRun WasDone it.dependencies None
+IsHandedOver WasDone it (Err OutOfMemory) = ⊤
+IsHandedOver WasDone it (Err _) = ⊥
 
 -- The texts were read and the plan was checked, and then this came of it; or there is no such plan.
 abbrev pub ReadsThen
@@ -89,11 +90,11 @@ EndsByPlan contents old new end (Err fault) =
     (end ≡ gave_up (handover_fault_words fault)) × (new ≡ old)
 
 pub record AnswersHandover
-    {M P F W : Type 0} (map_left : M → Option (List ℕ)) (plan_left : P → Option (List ℕ))
-    (file_left : F → Option (List ℕ)) (contents : W → Option (List ℕ))
+    {M P W : Type 0} (map_left : M → Option (List ℕ)) (plan_left : P → Option (List ℕ))
+    (WasDone : FileDeed → Type 0) (contents : W → Option (List ℕ))
     (old_map new_map : Counted M) (old_plan new_plan : Counted P) (old_out new_out : Counted W)
     (end : End) : Type 0 where
   pub answer : Result Plan HandoverFault
   pub reads : ReadsThen map_left plan_left old_map new_map old_plan new_plan
-      (IsHandedOver file_left) answer
+      (IsHandedOver WasDone) answer
   pub ends : EndsByPlan contents old_out new_out end answer

@@ -9,6 +9,7 @@ use Rattle.continuing.specs.declared.continue_fault.ContinueFault.{ContinueFault
 use Rattle.continuing.specs.declared.continue_fault.ContinueFault.TheVariants.{OtherNumber}
 use Rattle.continuing.specs.declared.continue_fault.ContinueFault.TheVariants.{OtherCount}
 use Rattle.continuing.specs.declared.continue_fault.ContinueFault.TheVariants.{Departs}
+use Rattle.agent_commands.specs.FileDeeds.{FileDeed}
 use Rattle.agent_commands.specs.KeptPlan.{IsFoundBeside}
 use Rattle.agent_commands.specs.declared.agent_fault.AgentFault.{AgentFault}
 use Rattle.fleet_commands.specs.declared.plans_beside.Foremost.{Foremost}
@@ -51,10 +52,10 @@ ComparesNext i (Ok (Some p)) (Some first) after earlier lines =
 -- the plans beside the tapes of so many agents were read, one after another, and these lines came
 -- of it
 abbrev pub AreCompared
-    : {F : Type 0} → (F → Option (List ℕ)) → ℕ → Option Foremost → List StatusLine → Type 0
-AreCompared file_left zero foremost lines = (foremost ≡ None) × (lines ≡ [])
-AreCompared file_left (suc i) foremost lines =
+    : (FileDeed → Type 0) → ℕ → Option Foremost → List StatusLine → Type 0
+AreCompared WasDone zero foremost lines = (foremost ≡ None) × (lines ≡ [])
+AreCompared WasDone (suc i) foremost lines =
     (before : Option Foremost) × (earlier : List StatusLine)
-    × AreCompared file_left i before earlier
-    × ((found : Result (Option Plan) AgentFault) × IsFoundBeside file_left found
+    × AreCompared WasDone i before earlier
+    × ((found : Result (Option Plan) AgentFault) × IsFoundBeside WasDone found
     × ComparesNext i found before foremost earlier lines)

@@ -9,6 +9,7 @@ use crate::handover_command::end_by;
 use crate::handover_fault::HandoverFault;
 use crate::known_tapes::read_known;
 use crate::left_plan::left_plan;
+use agent_commands::ReadFiles;
 use checker::check;
 use continuing::copy;
 use ending::{Ending, conclude};
@@ -18,7 +19,6 @@ use plan_text::Plan;
 use planned::{PlanAtHand, read_at_hand};
 use std::alloc::Global;
 use std::io::{Read, Write};
-use std::rt::Files;
 use text_io::Counted;
 
 /// The number of a new plan, and which agent is left out of it, if any.
@@ -30,7 +30,7 @@ pub struct NewPlan {
 
 /// As `perform`, with a fault's line on `err`. The answer is the exit status, which stays where
 /// `err` fails.
-pub fn anew_cmd<R: Files + AllocGlobal, M: Read, P: Read, W: Write, E: Write>(
+pub fn anew_cmd<R: ReadFiles + AllocGlobal, M: Read, P: Read, W: Write, E: Write>(
     rt: &R,
     map: &mut Counted<M>,
     plan: &mut Counted<P>,
@@ -40,7 +40,7 @@ pub fn anew_cmd<R: Files + AllocGlobal, M: Read, P: Read, W: Write, E: Write>(
     err: &mut Counted<E>,
 ) -> u8
     ensures { EndsAndTells
-        (AnswersAnew M.remaining P.remaining R.File.remaining W.contents new.without new.number
+        (AnswersAnew M.remaining P.remaining R.was_done W.contents new.without new.number
         map.old map.new plan.old plan.new out.old out.new)
         E.contents err.old err.new result }
 {
@@ -52,7 +52,7 @@ pub fn anew_cmd<R: Files + AllocGlobal, M: Read, P: Read, W: Write, E: Write>(
 /// `mapf status` does, each of which has to be right, but for that of an agent that is left out. It
 /// writes
 /// a plan to `out` of the moves that aren't begun, each in its step, from where the others lead.
-pub fn perform<R: Files + AllocGlobal, M: Read, P: Read, W: Write>(
+pub fn perform<R: ReadFiles + AllocGlobal, M: Read, P: Read, W: Write>(
     rt: &R,
     map: &mut Counted<M>,
     plan: &mut Counted<P>,
@@ -60,14 +60,14 @@ pub fn perform<R: Files + AllocGlobal, M: Read, P: Read, W: Write>(
     new: NewPlan,
     out: &mut Counted<W>,
 ) -> Ending
-    ensures { AnswersAnew M.remaining P.remaining R.File.remaining W.contents new.without new.number
+    ensures { AnswersAnew M.remaining P.remaining R.was_done W.contents new.without new.number
         map.old map.new plan.old plan.new out.old out.new (end_of result) }
 {
     end_by(begin_anew(rt, map, plan, tapes, new), out)
 }
 
 /// Reads all, and makes the plan.
-fn begin_anew<R: Files + AllocGlobal, M: Read, P: Read>(
+fn begin_anew<R: ReadFiles + AllocGlobal, M: Read, P: Read>(
     rt: &R,
     map: &mut Counted<M>,
     plan: &mut Counted<P>,
@@ -75,20 +75,20 @@ fn begin_anew<R: Files + AllocGlobal, M: Read, P: Read>(
     new: NewPlan,
 ) -> Result<Plan, HandoverFault>
     ensures { ReadsThen M.remaining P.remaining map.old map.new plan.old plan.new
-        (IsBegunAnew R.File.remaining new.without new.number) result }
+        (IsBegunAnew R.was_done new.without new.number) result }
 {
     let at_hand = read_at_hand(rt.alloc(), map, plan)?;
     leave(rt, &at_hand, tapes, new)
 }
 
 /// Reads the tapes, and makes the plan of what is left.
-fn leave<R: Files + AllocGlobal>(
+fn leave<R: ReadFiles + AllocGlobal>(
     rt: &R,
     at_hand: &PlanAtHand,
     tapes: &str,
     new: NewPlan,
 ) -> Result<Plan, HandoverFault>
-    ensures { IsBegunAnew R.File.remaining new.without new.number at_hand.now result }
+    ensures { IsBegunAnew R.was_done new.without new.number at_hand.now result }
 {
     if lacks_agent(at_hand, new.without) {
         return Err(HandoverFault::NoSuchAgent);

@@ -5,22 +5,21 @@ ghost use Rattle.fleet_commands.specs.FoundTapes.{is_known, AreFoundIn, AreWithi
 ghost use Rattle.fleet_commands.specs.FoundTapes.{IsFoundIn, begun_by, finished_by};
 
 use agent::Records;
-use agent_commands::{AgentFault, open_to_read, read_records};
+use agent_commands::{AgentFault, ReadFiles, read_records};
 use depgraph::Dependencies;
 use robot::FileTapeFault;
 use std::alloc::{AllocError, Global};
-use std::rt::Files;
 use text_io::Counted;
 
 /// Reads the tape of each agent, in the file that has this name with the agent's number in place of
 /// each `%`: how many whole records it has, or why no agent is opened on it.
-pub(crate) fn read_tapes<R: Files + AllocGlobal>(
+pub(crate) fn read_tapes<R: ReadFiles + AllocGlobal>(
     rt: &R,
     dependencies: &Dependencies,
     name: &str,
 ) -> Result<Vec<Result<u32, AgentFault>>, AllocError>
     ensures found { IfOk result
-        (λ found. AreFoundIn R.File.remaining dependencies.now found.items) }
+        (λ found. AreFoundIn R.was_done dependencies.now found.items) }
     ensures within { IfOk result (λ found. AreWithinMoves dependencies.now found.items) }
 {
     let mut found = Vec::new(rt.alloc());
@@ -38,18 +37,18 @@ pub(crate) fn name_of(alloc: Global, name: &str, agent: u32) -> Result<String, A
 }
 
 /// Reads the tape of an agent.
-fn read_tape<R: Files + AllocGlobal>(
+fn read_tape<R: ReadFiles + AllocGlobal>(
     rt: &R,
     dependencies: &Dependencies,
     agent: u32,
     path: &str,
 ) -> Result<Result<u32, AgentFault>, AllocError>
     requires { agent < length dependencies.now.tracks }
-    ensures found { IfOk result (IsFoundIn R.File.remaining dependencies.now agent) }
+    ensures found { IfOk result (IsFoundIn R.was_done dependencies.now agent) }
     ensures within { (track : Track) → track_of dependencies.now agent ≡ Some track
         → IfOk result (λ found. IfOk found (λ records. records ≤ 2 * moves track)) }
 {
-    let mut file = match open_to_read(rt, path) {
+    let mut file = match rt.open_to_read(path) {
         Ok(file) => Counted::new(file),
         Err(fault) => return Ok(Err(fault)),
     };

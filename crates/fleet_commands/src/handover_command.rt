@@ -6,17 +6,17 @@ ghost use Rattle.fleet_commands.specs.HandoverCommand.{IsHandedOver, ReadsThen};
 use crate::cut_time::cut_time;
 use crate::handover_fault::HandoverFault;
 use crate::known_tapes::read_known;
+use agent_commands::ReadFiles;
 use continuing::cut;
 use ending::{Ending, Status, conclude, finish};
 use plan_text::{Plan, write_plan};
 use planned::{PlanAtHand, read_at_hand};
 use std::io::{Read, Write};
-use std::rt::Files;
 use text_io::Counted;
 
 /// As `perform`, with a fault's line on `err`. The answer is the exit status, which stays where
 /// `err` fails.
-pub fn handover_cmd<R: Files + AllocGlobal, M: Read, P: Read, W: Write, E: Write>(
+pub fn handover_cmd<R: ReadFiles + AllocGlobal, M: Read, P: Read, W: Write, E: Write>(
     rt: &R,
     map: &mut Counted<M>,
     plan: &mut Counted<P>,
@@ -25,7 +25,7 @@ pub fn handover_cmd<R: Files + AllocGlobal, M: Read, P: Read, W: Write, E: Write
     err: &mut Counted<E>,
 ) -> u8
     ensures { EndsAndTells
-        (AnswersHandover M.remaining P.remaining R.File.remaining W.contents map.old map.new
+        (AnswersHandover M.remaining P.remaining R.was_done W.contents map.old map.new
         plan.old plan.new out.old out.new)
         E.contents err.old err.new result }
 {
@@ -38,40 +38,40 @@ pub fn handover_cmd<R: Files + AllocGlobal, M: Read, P: Read, W: Write, E: Write
 /// done from
 /// the time on by which every move that was begun has ended: each agent may be opened on its tape
 /// by that.
-pub fn perform<R: Files + AllocGlobal, M: Read, P: Read, W: Write>(
+pub fn perform<R: ReadFiles + AllocGlobal, M: Read, P: Read, W: Write>(
     rt: &R,
     map: &mut Counted<M>,
     plan: &mut Counted<P>,
     tapes: &str,
     out: &mut Counted<W>,
 ) -> Ending
-    ensures { AnswersHandover M.remaining P.remaining R.File.remaining W.contents map.old map.new
+    ensures { AnswersHandover M.remaining P.remaining R.was_done W.contents map.old map.new
         plan.old plan.new out.old out.new (end_of result) }
 {
     end_by(hand_over(rt, map, plan, tapes), out)
 }
 
 /// Reads all, and cuts the plan.
-fn hand_over<R: Files + AllocGlobal, M: Read, P: Read>(
+fn hand_over<R: ReadFiles + AllocGlobal, M: Read, P: Read>(
     rt: &R,
     map: &mut Counted<M>,
     plan: &mut Counted<P>,
     tapes: &str,
 ) -> Result<Plan, HandoverFault>
     ensures { ReadsThen M.remaining P.remaining map.old map.new plan.old plan.new
-        (IsHandedOver R.File.remaining) result }
+        (IsHandedOver R.was_done) result }
 {
     let at_hand = read_at_hand(rt.alloc(), map, plan)?;
     cut_begun(rt, &at_hand, tapes)
 }
 
 /// Reads the tapes, and cuts the plan at the least time by which all is made that was begun.
-fn cut_begun<R: Files + AllocGlobal>(
+fn cut_begun<R: ReadFiles + AllocGlobal>(
     rt: &R,
     at_hand: &PlanAtHand,
     tapes: &str,
 ) -> Result<Plan, HandoverFault>
-    ensures { IsHandedOver R.File.remaining at_hand.now result }
+    ensures { IsHandedOver R.was_done at_hand.now result }
 {
     let found = read_known(rt, &at_hand.dependencies, tapes, None)?;
     let time = cut_time(&at_hand.dependencies, &found);

@@ -9,21 +9,20 @@ ghost use Rattle.fleet_commands.specs.Code.Reading.{IsNotKnownBy};
 use crate::found_tapes::{is_known, read_tapes};
 use crate::handover_fault::HandoverFault;
 use crate::one_run::push_run_lines;
-use agent_commands::AgentFault;
+use agent_commands::{AgentFault, ReadFiles};
 use depgraph::Dependencies;
-use std::rt::Files;
 
 /// Reads the tapes of all agents. But for that of an agent that is left out each has to be right,
 /// and nothing may show that they are not those of one run.
-pub(crate) fn read_known<R: Files + AllocGlobal>(
+pub(crate) fn read_known<R: ReadFiles + AllocGlobal>(
     rt: &R,
     dependencies: &Dependencies,
     tapes: &str,
     without: Option<u16>,
 ) -> Result<Vec<Result<u32, AgentFault>>, HandoverFault>
     ensures known { IfOk result
-        (λ found. AreReadAs R.File.remaining dependencies.now without found.items []) }
-    ensures fault { IfErr result (IsNotKnownBy R.File.remaining dependencies.now without) }
+        (λ found. AreReadAs R.was_done dependencies.now without found.items []) }
+    ensures fault { IfErr result (IsNotKnownBy R.was_done dependencies.now without) }
     ensures within { IfOk result (λ found. AreWithinMoves dependencies.now found.items) }
 {
     let found = read_tapes(rt, dependencies, tapes)?;

@@ -7,11 +7,10 @@ ghost use Rattle.fleet_commands.specs.declared.status_line.StatusLine.{StatusLin
 
 use crate::found_tapes::{name_of, unless_refused};
 use crate::status_line::StatusLine;
-use agent_commands::{AgentFault, plan_beside};
+use agent_commands::{AgentFault, ReadFiles, plan_beside};
 use continuing::{ContinueFault, continues};
 use plan_text::Plan;
 use std::alloc::AllocError;
-use std::rt::Files;
 
 /// The plan that goes furthest so far, and beside whose tape it is.
 #[derive(Drop)]
@@ -22,7 +21,7 @@ pub(crate) struct Foremost {
 
 /// Reads the plan beside the tape of each of so many agents, and adds a line for each that parts
 /// from the one that goes furthest before it, and for each that can't be read.
-pub(crate) fn push_plan_lines<R: Files + AllocGlobal>(
+pub(crate) fn push_plan_lines<R: ReadFiles + AllocGlobal>(
     rt: &R,
     lines: &mut Vec<StatusLine>,
     agents: u32,
@@ -30,7 +29,7 @@ pub(crate) fn push_plan_lines<R: Files + AllocGlobal>(
 ) -> Result<(), AllocError>
     requires { agents ≤ 65535 }
     ensures { IfOk result (λ _. (foremost : Option Foremost) × (more : List StatusLine)
-        × AreCompared R.File.remaining agents foremost more
+        × AreCompared R.was_done agents foremost more
         × (lines.new.items ≡ lines.old.items ++ more)) }
 {
     let mut foremost = None;

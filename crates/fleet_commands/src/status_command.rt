@@ -11,17 +11,17 @@ use crate::one_run::push_run_lines;
 use crate::plans_beside::push_plan_lines;
 use crate::status_line::{StatusLine, write_lines};
 use crate::status_lines::status_lines;
+use agent_commands::ReadFiles;
 use depgraph::Dependencies;
 use ending::{Ending, Status, conclude, finish};
 use planned::read_dependencies;
 use std::alloc::AllocError;
 use std::io::{Read, Write};
-use std::rt::Files;
 use text_io::{Counted, Failure};
 
 /// As `perform`, with a fault's line on `err`. The answer is the exit status, which stays where
 /// `err` fails.
-pub fn status_cmd<R: Files + AllocGlobal, M: Read, P: Read, W: Write, E: Write>(
+pub fn status_cmd<R: ReadFiles + AllocGlobal, M: Read, P: Read, W: Write, E: Write>(
     rt: &R,
     map: &mut Counted<M>,
     plan: &mut Counted<P>,
@@ -31,7 +31,7 @@ pub fn status_cmd<R: Files + AllocGlobal, M: Read, P: Read, W: Write, E: Write>(
     err: &mut Counted<E>,
 ) -> u8
     ensures { EndsAndTells
-        (AnswersStatus M.remaining P.remaining R.File.remaining W.contents json map.old map.new
+        (AnswersStatus M.remaining P.remaining R.was_done W.contents json map.old map.new
         plan.old plan.new out.old out.new)
         E.contents err.old err.new result }
 {
@@ -43,7 +43,7 @@ pub fn status_cmd<R: Files + AllocGlobal, M: Read, P: Read, W: Write, E: Write>(
 /// each `%`. It writes to `out` where each agent is by its tape and what keeps it, then who keeps
 /// others, then what shows that the tapes are not those of one run, and then which plans beside
 /// them part. Nothing is locked or written else, so it may be asked beside the agents.
-pub fn perform<R: Files + AllocGlobal, M: Read, P: Read, W: Write>(
+pub fn perform<R: ReadFiles + AllocGlobal, M: Read, P: Read, W: Write>(
     rt: &R,
     map: &mut Counted<M>,
     plan: &mut Counted<P>,
@@ -51,7 +51,7 @@ pub fn perform<R: Files + AllocGlobal, M: Read, P: Read, W: Write>(
     json: bool,
     out: &mut Counted<W>,
 ) -> Ending
-    ensures { AnswersStatus M.remaining P.remaining R.File.remaining W.contents json map.old map.new
+    ensures { AnswersStatus M.remaining P.remaining R.was_done W.contents json map.old map.new
         plan.old plan.new out.old out.new (end_of result) }
 {
     match read_dependencies(rt.alloc(), map, plan) {
@@ -61,14 +61,14 @@ pub fn perform<R: Files + AllocGlobal, M: Read, P: Read, W: Write>(
 }
 
 /// Tells what the tapes of a plan's agents have.
-fn tell<R: Files + AllocGlobal, W: Write>(
+fn tell<R: ReadFiles + AllocGlobal, W: Write>(
     rt: &R,
     dependencies: &Dependencies,
     tapes: &str,
     json: bool,
     out: &mut Counted<W>,
 ) -> Ending
-    ensures { EndsByTapes R.File.remaining W.contents json dependencies.now out.old out.new
+    ensures { EndsByTapes R.was_done W.contents json dependencies.now out.old out.new
         (end_of result) }
 {
     let Ok(lines) = all_lines(rt, dependencies, tapes) else {
@@ -79,12 +79,12 @@ fn tell<R: Files + AllocGlobal, W: Write>(
 }
 
 /// Reads the tapes and the plans beside them: the lines of what they have.
-fn all_lines<R: Files + AllocGlobal>(
+fn all_lines<R: ReadFiles + AllocGlobal>(
     rt: &R,
     dependencies: &Dependencies,
     tapes: &str,
 ) -> Result<Vec<StatusLine>, AllocError>
-    ensures { IfOk result (λ lines. AreAllLines R.File.remaining dependencies.now lines.items) }
+    ensures { IfOk result (λ lines. AreAllLines R.was_done dependencies.now lines.items) }
 {
     let found = read_tapes(rt, dependencies, tapes)?;
     let rotations = dependencies.rotations();

@@ -5,6 +5,7 @@ use Rattle.model.specs.declared.plan_fault.PlanFault.{PlanFault}
 use Rattle.model.specs.declared.plan_fault.PlanFault.TheVariants.{OutOfMemory as NoMemory}
 use Rattle.model.specs.Plan.{Plan, IsValid}
 use Rattle.model.specs.Timetable.{Timetable}
+use Rattle.agent_commands.specs.FileDeeds.{FileDeed}
 use Rattle.fleet_commands.specs.FoundTapes.{Found, AreFoundIn}
 use Rattle.fleet_commands.specs.HandoverCommand.{IsFirstUnknown, IsNotOneRun}
 use Rattle.fleet_commands.specs.declared.handover_fault.HandoverFault.{HandoverFault}
@@ -15,12 +16,12 @@ use Rattle.fleet_commands.specs.declared.handover_fault.HandoverFault.TheVariant
 -- the tapes were read, and not all are known, or they are not those of one run, or memory was
 -- refused
 abbrev pub IsNotKnownBy
-    : {F : Type 0} → (F → Option (List ℕ)) → Timetable → Option ℕ → HandoverFault → Type 0
-IsNotKnownBy file_left tt without (BadTape i) =
-    (found : List Found) × AreFoundIn file_left tt found × IsFirstUnknown without found i
-IsNotKnownBy file_left tt without NotOneRun = IsNotOneRun file_left tt without
-IsNotKnownBy file_left tt without OutOfMemory = ⊤
-IsNotKnownBy file_left tt without _ = ⊥
+    : (FileDeed → Type 0) → Timetable → Option ℕ → HandoverFault → Type 0
+IsNotKnownBy WasDone tt without (BadTape i) =
+    (found : List Found) × AreFoundIn WasDone tt found × IsFirstUnknown without found i
+IsNotKnownBy WasDone tt without NotOneRun = IsNotOneRun WasDone tt without
+IsNotKnownBy WasDone tt without OutOfMemory = ⊤
+IsNotKnownBy WasDone tt without _ = ⊥
 
 abbrev pub fault_of : PlanFault → HandoverFault
 fault_of NoMemory = OutOfMemory

@@ -17,13 +17,13 @@ returns-in_err-found g c =
       λ same. c.if-new-number.false
           (same ∙ sym c.number.ensures.number),
     ) in
-    let Anew = IsBegunAnew g.R.File.Read.remaining c.args.new.without c.args.new.number c.args.at_hand.now in
-    subst Anew (sym (p.1 ∙ ap Err p.2)) (unknown-as g.R.File.Read.remaining c.args.new.without c.args.new.number c.args.at_hand.now may _ c.in_err-found.ensures.fault)
+    let Anew = IsBegunAnew g.R.ReadFiles.was_done c.args.new.without c.args.new.number c.args.at_hand.now in
+    subst Anew (sym (p.1 ∙ ap Err p.2)) (unknown-as g.R.ReadFiles.was_done c.args.new.without c.args.new.number c.args.at_hand.now may _ c.in_err-found.ensures.fault)
 
 pub returns-in_err-left : goal.returns-in_err-left
 returns-in_err-left g c =
     let p = err_from_is_err_and c.from_residual-in_err-left.result c.from_residual-in_err-left.ensures.1 in
-    subst (IsBegunAnew g.R.File.Read.remaining c.args.new.without c.args.new.number c.args.at_hand.now) (sym (p.1 ∙ ap Err (p.2 ∙ c.in_err-left.ensures.fault))) tt
+    subst (IsBegunAnew g.R.ReadFiles.was_done c.args.new.without c.args.new.number c.args.at_hand.now) (sym (p.1 ∙ ap Err (p.2 ∙ c.in_err-left.ensures.fault))) tt
 
 pub returns : goal.returns
 returns g c =
@@ -34,5 +34,5 @@ returns g c =
       λ same. c.if-new-number.false
           (same ∙ sym c.number.ensures.number),
     ) in
-    left-as g.R.File.Read.remaining c.args.new.without c.args.new.number it may found c.in_ok-left.left c.in_ok-found.ensures.known
+    left-as g.R.ReadFiles.was_done c.args.new.without c.args.new.number it may found c.in_ok-left.left c.in_ok-found.ensures.known
     (c.in_ok-left.ensures.left ∙ ap (λ l. left_plan it.plan it.dependencies l c.args.new.without c.args.new.number) c.deref.ensures.value) c.checked.result c.checked.ensures

@@ -19,8 +19,8 @@ loop-agent-preserved g c =
       count = ap length more ∙ length-append before (now ∷ []) ∙ omega (arith, counted);
       each = λ i f there. elim (at-last before now i f (ap (λ l. slice_get l i) (sym more) ∙ there)) [
         | inl earlier ↦ c.loop-agent.invariant.each i f earlier
-        | inr last ↦ subst (λ n. IsFoundIn g.R.File.Read.remaining tt n f) (sym (last.0 ∙ counted))
-            (subst (IsFoundIn g.R.File.Read.remaining tt c.loop-agent.agent) last.1 c.in_ok-read_tape.ensures.found)
+        | inr last ↦ subst (λ n. IsFoundIn g.R.ReadFiles.was_done tt n f) (sym (last.0 ∙ counted))
+            (subst (IsFoundIn g.R.ReadFiles.was_done tt c.loop-agent.agent) last.1 c.in_ok-read_tape.ensures.found)
       ];
       within = λ i records track is there. elim (at-last before now i (Ok records) (ap (λ l. slice_get l i) (sym more) ∙ there)) [
         | inl earlier ↦ c.loop-agent.invariant.within i records track is earlier

@@ -11,12 +11,12 @@ loop-agent-preserved g c =
     let before = c.loop-agent.invariant.compared in
     let comes = subst (λ lines. ComparesNext i c.in_ok-found.found c.loop-agent.foremost c.in_ok-foremost.foremost lines c.compare_next.new.lines.items) before.2 c.in_ok-foremost.ensures in
     let next = behind-front c.args.lines.now.items i c.in_ok-found.found c.loop-agent.foremost c.in_ok-foremost.foremost before.0 c.compare_next.new.lines.items comes in
-    let found = subst (IsFoundBeside g.R.File.Read.remaining) (sym c.in_ok-found.ensures) c.plan_beside.ensures in
+    let found = subst (IsFoundBeside g.R.ReadFiles.was_done) (sym c.in_ok-found.ensures) c.plan_beside.ensures in
     let same : suc i ≡ i + 1 = omega arith in
     record {
       compared = (
         next.0,
-        subst (λ n. AreCompared g.R.File.Read.remaining n c.in_ok-foremost.foremost next.0) same (c.loop-agent.foremost, before.0, before.1, (c.in_ok-found.found, found, next.1)),
+        subst (λ n. AreCompared g.R.ReadFiles.was_done n c.in_ok-foremost.foremost next.0) same (c.loop-agent.foremost, before.0, before.1, (c.in_ok-found.found, found, next.1)),
         next.2,
       );
     }

@@ -17,5 +17,5 @@ returns g c =
       turns,
       c.in_ok-found.ensures.found,
       c.rotations-rotations.ensures,
-      (plans.0, plans.1, subst (λ n. AreCompared g.R.File.Read.remaining n plans.0 plans.1) c.agents.ensures.agents plans.2, plans.3 ∙ ap (λ l. l ++ plans.1) run),
+      (plans.0, plans.1, subst (λ n. AreCompared g.R.ReadFiles.was_done n plans.0 plans.1) c.agents.ensures.agents plans.2, plans.3 ∙ ap (λ l. l ++ plans.1) run),
     )
