@@ -4,18 +4,18 @@ ghost use Rattle.fleet_commands.specs.HandoverCommand.{AnswersHandover};
 
 use ending::Ending;
 use fleet_commands::handover_command;
+use mapf_cmd::ReadFiles;
 use std::io::{Read, Write};
-use std::rt::Files;
 use text_io::Counted;
 
 /// Writes the plan as far as its agents have begun it, by the tapes `0.tape`, `1.tape` and so on.
-pub fn cut_as_begun<R: Files + AllocGlobal, M: Read, P: Read, W: Write>(
+pub fn cut_as_begun<R: ReadFiles + AllocGlobal, M: Read, P: Read, W: Write>(
     rt: &R,
     map: &mut Counted<M>,
     plan: &mut Counted<P>,
     out: &mut Counted<W>,
 ) -> Ending
-    ensures { AnswersHandover M.remaining P.remaining R.File.remaining W.contents map.old map.new
+    ensures { AnswersHandover M.remaining P.remaining R.was_done W.contents map.old map.new
         plan.old plan.new out.old out.new (end_of result) }
 {
     handover_command::perform(rt, map, plan, "%.tape", out)

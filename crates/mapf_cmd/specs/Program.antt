@@ -38,6 +38,8 @@ use Rattle.plan_commands.specs.PlanQueries as plan_answers
 use Rattle.proof_commands.specs.OptimalCommand.{AnswersOptimal}
 use Rattle.run_commands.specs.RunCommand.{AnswersRun}
 use Rattle.agent_commands.specs.AgentCommand.{AnswersAgent}
+use Rattle.agent_commands.specs.FileDeeds.{FileDeed}
+use Rattle.agent_commands.specs.FileDeeds.FileDeed.{opens_file}
 use Rattle.agent_commands.specs.TapeCommand.{AnswersTape, EndsWithoutTape}
 use Rattle.fleet_commands.specs.AnewCommand.{AnswersAnew}
 use Rattle.fleet_commands.specs.HandoverCommand.{AnswersHandover}
@@ -47,27 +49,35 @@ use Rattle.explain.specs.Explaining.{AddsMore}
 -- ---- files, each as it was opened and as it was left: which file was opened for which word no
 -- clause can say
 
-abbrev pub OnFile : {F : Type 0} → (Counted F → Counted F → Type 0) → Type 0
-OnFile {F} Does = (a b : Counted F) × Does a b
+-- the file was opened, and nothing of it had been read
+abbrev pub IsJustOpened
+    : {F : Type 0} → (F → Option (List ℕ)) → (FileDeed → Type 0) → Counted F → Type 0
+IsJustOpened remaining WasDone file = WasDone (opens_file (remaining (counted_inner file)))
 
-abbrev pub OnTwoFiles
-    : {F : Type 0} → (Counted F → Counted F → Counted F → Counted F → Type 0) → Type 0
-OnTwoFiles {F} Does = (a b c d : Counted F) × Does a b c d
+abbrev pub OnFile
+    : {F : Type 0} → (Counted F → Type 0) → (Counted F → Counted F → Type 0) → Type 0
+OnFile {F} Opened Does = (a b : Counted F) × Opened a × Does a b
 
-abbrev pub OnThreeFiles : {F : Type 0}
+abbrev pub OnTwoFiles : {F : Type 0} → (Counted F → Type 0)
+    → (Counted F → Counted F → Counted F → Counted F → Type 0) → Type 0
+OnTwoFiles {F} Opened Does = (a b c d : Counted F) × Opened a × Opened c × Does a b c d
+
+abbrev pub OnThreeFiles : {F : Type 0} → (Counted F → Type 0)
     → (Counted F → Counted F → Counted F → Counted F → Counted F → Counted F → Type 0) → Type 0
-OnThreeFiles {F} Does = (a b c d e f : Counted F) × Does a b c d e f
+OnThreeFiles {F} Opened Does =
+    (a b c d e f : Counted F) × Opened a × Opened c × Opened e × Does a b c d e f
 
 -- the name that stands for the standard input
 abbrev pub input_name : Text
 input_name = codes "-"
 
 -- the input was read where the one file of a command is `-`, and else the file, and no input
-abbrev pub OnFileOrInput : {F I : Type 0} → Text → (Counted I → Counted I → Type 0)
-    → (Counted F → Counted F → Type 0) → Counted I → Counted I → Type 0
-OnFileOrInput file DoesInput DoesFile old_in new_in =
+abbrev pub OnFileOrInput : {F I : Type 0} → (Counted F → Type 0) → Text
+    → (Counted I → Counted I → Type 0) → (Counted F → Counted F → Type 0) → Counted I → Counted I
+    → Type 0
+OnFileOrInput Opened file DoesInput DoesFile old_in new_in =
     ((file ≡ input_name) × DoesInput old_in new_in)
-    ⊎ ((file ≡ input_name → ⊥) × OnFile DoesFile × (new_in ≡ old_in))
+    ⊎ ((file ≡ input_name → ⊥) × OnFile Opened DoesFile × (new_in ≡ old_in))
 
 -- ---- commands
 
@@ -88,13 +98,15 @@ terms_of l =
 
 -- `check` read a map and a plan, and a scenario where one is named
 abbrev pub CheckOn
-    : {F W S : Type 0} → (F → Option (List ℕ)) → (W → Option (List ℕ)) → Option S → CheckTerms
-    → Counted W → Counted W → End → Type 0
-CheckOn remaining contents None terms old new end =
-    OnTwoFiles (λ a b c d. AnswersCheck remaining remaining contents terms a b c d old new end)
-CheckOn remaining contents (Some scen) terms old new end =
-    OnThreeFiles (λ a b c d e f. AnswersCheckFit remaining remaining remaining contents terms a b c
-    d e f old new end)
+    : {F W S : Type 0} → (F → Option (List ℕ)) → (FileDeed → Type 0) → (W → Option (List ℕ))
+    → Option S → CheckTerms → Counted W → Counted W → End → Type 0
+CheckOn remaining WasDone contents None terms old new end =
+    OnTwoFiles (IsJustOpened remaining WasDone)
+    (λ a b c d. AnswersCheck remaining remaining contents terms a b c d old new end)
+CheckOn remaining WasDone contents (Some scen) terms old new end =
+    OnThreeFiles (IsJustOpened remaining WasDone)
+    (λ a b c d e f. AnswersCheckFit remaining remaining remaining contents terms a b c d e f old
+    new end)
 
 -- what was asked of a map or a scenario was answered, by what was read of it
 abbrev pub AnswersText
@@ -123,64 +135,79 @@ AnswersQuery map_left plan_left contents (query.Cut time) a b c d old new end =
 
 -- and what was asked of its agents' tapes, by what was read of these too
 abbrev pub AnswersFleet
-    : {M P F W : Type 0} → (M → Option (List ℕ)) → (P → Option (List ℕ)) → (F → Option (List ℕ))
+    : {M P W : Type 0} → (M → Option (List ℕ)) → (P → Option (List ℕ)) → (FileDeed → Type 0)
     → (W → Option (List ℕ)) → FleetQuery
     → Counted M → Counted M → Counted P → Counted P → Counted W → Counted W → End → Type 0
-AnswersFleet map_left plan_left file_left contents (fleet_query.Status json) a b c d old new end =
-    AnswersStatus map_left plan_left file_left contents json a b c d old new end
-AnswersFleet map_left plan_left file_left contents fleet_query.Handover a b c d old new end =
-    AnswersHandover map_left plan_left file_left contents a b c d old new end
-AnswersFleet map_left plan_left file_left contents (fleet_query.Anew number without) a b c d
+AnswersFleet map_left plan_left WasDone contents (fleet_query.Status json) a b c d old new end =
+    AnswersStatus map_left plan_left WasDone contents json a b c d old new end
+AnswersFleet map_left plan_left WasDone contents fleet_query.Handover a b c d old new end =
+    AnswersHandover map_left plan_left WasDone contents a b c d old new end
+AnswersFleet map_left plan_left WasDone contents (fleet_query.Anew number without) a b c d
     old new end =
-    AnswersAnew map_left plan_left file_left contents without number a b c d old new end
+    AnswersAnew map_left plan_left WasDone contents without number a b c d old new end
 
 -- The command ended by what it read of its files. Only an agent reads the input, and a command
 -- whose one file is it.
 abbrev pub PerformsOn
-    : {F I W : Type 0} → (F → Option (List ℕ)) → (I → Option (List ℕ))
-    → (W → Option (List ℕ)) → Line
+    : {F T I W : Type 0} → (F → Option (List ℕ)) → (T → Option (List ℕ)) → (FileDeed → Type 0)
+    → (I → Option (List ℕ)) → (W → Option (List ℕ)) → Line
     → Counted I → Counted I → Counted W → Counted W → End → Type 0
-PerformsOn remaining input_left contents (line.Text file query) old_in new_in old new end =
-    OnFileOrInput (string_bytes file)
+PerformsOn remaining tape_left WasDone input_left contents (line.Text file query) old_in new_in old
+    new end =
+    OnFileOrInput (IsJustOpened remaining WasDone) (string_bytes file)
     (λ a b. AnswersText input_left contents query a b old new end)
     (λ a b. AnswersText remaining contents query a b old new end)
     old_in new_in
-PerformsOn remaining input_left contents (line.Row map_file scen_file row) old_in new_in
-    old new end =
-    OnTwoFiles (λ a b c d. AnswersRow remaining remaining contents a b c d row old new end)
-    × (new_in ≡ old_in)
-PerformsOn remaining input_left contents (line.Rows l) old_in new_in old new end =
-    OnTwoFiles (λ a b c d. AnswersRows remaining remaining contents (rows_asked l) a b c d old new
-    end) × (new_in ≡ old_in)
-PerformsOn remaining input_left contents (line.Check l) old_in new_in old new end =
-    CheckOn remaining contents l.scen (terms_of l) old new end × (new_in ≡ old_in)
-PerformsOn remaining input_left contents (line.Query map_file plan_file query) old_in new_in
-    old new end =
-    OnTwoFiles (λ a b c d. AnswersQuery remaining remaining contents query a b c d old new end)
-    × (new_in ≡ old_in)
-PerformsOn remaining input_left contents (line.Continues map_file old_file new_file) old_in new_in
-    old new end =
-    OnThreeFiles (λ a b c d e f. AnswersContinues remaining remaining remaining contents a b c d e f
-    old new end) × (new_in ≡ old_in)
-PerformsOn remaining input_left contents (line.Optimal l) old_in new_in old new end =
-    OnThreeFiles (λ a b c d e f. AnswersOptimal remaining remaining remaining contents l.json a b c
-    d e f old new end) × (new_in ≡ old_in)
-PerformsOn remaining input_left contents (line.Run map_file plan_file events_file complete) old_in
+PerformsOn remaining tape_left WasDone input_left contents (line.Row map_file scen_file row) old_in
     new_in old new end =
-    OnThreeFiles (λ a b c d e f. AnswersRun remaining remaining remaining contents a b c d e f
-    complete old new end) × (new_in ≡ old_in)
-PerformsOn remaining input_left contents (line.Agent map_file plan_file id tape_file claim) old_in
-    new_in old new end =
-    OnTwoFiles (λ a b c d. AnswersAgent remaining remaining remaining input_left contents claim id a
-    b c d old_in new_in old new end)
-PerformsOn remaining input_left contents (line.Tape map_file plan_file id tape_file) old_in new_in
-    old new end =
-    (OnThreeFiles (λ a b c d e f. AnswersTape remaining remaining remaining contents id a b c d e f
-    old new end) ⊎ (EndsWithoutTape end × (new ≡ old)))
+    OnTwoFiles (IsJustOpened remaining WasDone)
+    (λ a b c d. AnswersRow remaining remaining contents a b c d row old new end)
     × (new_in ≡ old_in)
-PerformsOn remaining input_left contents (line.Fleet l) old_in new_in old new end =
-    OnTwoFiles (λ a b c d. AnswersFleet remaining remaining remaining contents l.query a b c d old
-    new end) × (new_in ≡ old_in)
+PerformsOn remaining tape_left WasDone input_left contents (line.Rows l) old_in new_in old new end =
+    OnTwoFiles (IsJustOpened remaining WasDone)
+    (λ a b c d. AnswersRows remaining remaining contents (rows_asked l) a b c d old new end)
+    × (new_in ≡ old_in)
+PerformsOn remaining tape_left WasDone input_left contents (line.Check l) old_in new_in old new
+    end =
+    CheckOn remaining WasDone contents l.scen (terms_of l) old new end × (new_in ≡ old_in)
+PerformsOn remaining tape_left WasDone input_left contents (line.Query map_file plan_file query)
+    old_in new_in old new end =
+    OnTwoFiles (IsJustOpened remaining WasDone)
+    (λ a b c d. AnswersQuery remaining remaining contents query a b c d old new end)
+    × (new_in ≡ old_in)
+PerformsOn remaining tape_left WasDone input_left contents
+    (line.Continues map_file old_file new_file) old_in new_in old new end =
+    OnThreeFiles (IsJustOpened remaining WasDone)
+    (λ a b c d e f. AnswersContinues remaining remaining remaining contents a b c d e f old new
+    end)
+    × (new_in ≡ old_in)
+PerformsOn remaining tape_left WasDone input_left contents (line.Optimal l) old_in new_in old new
+    end =
+    OnThreeFiles (IsJustOpened remaining WasDone)
+    (λ a b c d e f. AnswersOptimal remaining remaining remaining contents l.json a b c d e f old
+    new end)
+    × (new_in ≡ old_in)
+PerformsOn remaining tape_left WasDone input_left contents
+    (line.Run map_file plan_file events_file complete) old_in new_in old new end =
+    OnThreeFiles (IsJustOpened remaining WasDone)
+    (λ a b c d e f. AnswersRun remaining remaining remaining contents a b c d e f complete old new
+    end)
+    × (new_in ≡ old_in)
+PerformsOn remaining tape_left WasDone input_left contents
+    (line.Agent map_file plan_file id tape_file claim) old_in new_in old new end =
+    OnTwoFiles (IsJustOpened remaining WasDone)
+    (λ a b c d. AnswersAgent tape_left WasDone remaining remaining input_left contents claim id a b
+    c d old_in new_in old new end)
+PerformsOn remaining tape_left WasDone input_left contents
+    (line.Tape map_file plan_file id tape_file) old_in new_in old new end =
+    (OnThreeFiles (IsJustOpened remaining WasDone)
+    (λ a b c d e f. AnswersTape remaining remaining remaining contents id a b c d e f old new end)
+    ⊎ (EndsWithoutTape end × (new ≡ old))) × (new_in ≡ old_in)
+PerformsOn remaining tape_left WasDone input_left contents (line.Fleet l) old_in new_in old new
+    end =
+    OnTwoFiles (IsJustOpened remaining WasDone)
+    (λ a b c d. AnswersFleet remaining remaining WasDone contents l.query a b c d old new end)
+    × (new_in ≡ old_in)
 
 -- Where the error output is a terminal, or that is asked for, `rows` says there how far it has
 -- come. No other command writes there before it ends.
@@ -192,11 +219,11 @@ ShowsOn told is_watched line old new = new ≡ old
 
 -- the command was performed, or a file of it could not be opened, and nothing was read or written
 abbrev pub Performs
-    : {F I W : Type 0} → (F → Option (List ℕ)) → (I → Option (List ℕ))
-    → (W → Option (List ℕ)) → Line
+    : {F T I W : Type 0} → (F → Option (List ℕ)) → (T → Option (List ℕ)) → (FileDeed → Type 0)
+    → (I → Option (List ℕ)) → (W → Option (List ℕ)) → Line
     → Counted I → Counted I → Counted W → Counted W → End → Type 0
-Performs remaining input_left contents line old_in new_in old new end =
-    PerformsOn remaining input_left contents line old_in new_in old new end
+Performs remaining tape_left WasDone input_left contents line old_in new_in old new end =
+    PerformsOn remaining tape_left WasDone input_left contents line old_in new_in old new end
     ⊎ ((end ≡ gave_up (failed failure.OpenFailed)) × (new_in ≡ old_in) × (new ≡ old))
 
 -- the fault that is explained: that of the command, where this is asked for
@@ -213,13 +240,15 @@ Explains told (Some words) old new = AddsMore (told (counted_inner old)) (told (
 -- The command was performed, with its progress on the error output, what is told of its ending left
 -- that so, and an explanation is behind it, where one is asked for.
 pub record AnswersLine
-    {F I W E : Type 0} (remaining : F → Option (List ℕ)) (input_left : I → Option (List ℕ))
+    {F T I W E : Type 0} (remaining : F → Option (List ℕ)) (tape_left : T → Option (List ℕ))
+    (WasDone : FileDeed → Type 0) (input_left : I → Option (List ℕ))
     (contents : W → Option (List ℕ))
     (told : E → Option (List ℕ)) (is_watched : Bool) (asked : Asked) (old_in new_in : Counted I)
     (old new : Counted W) (old_err new_err : Counted E)
     (code : ℕ) : Type 0 where
   pub end : End
-  pub performs : Performs remaining input_left contents asked.line old_in new_in old new end
+  pub performs : Performs remaining tape_left WasDone input_left contents asked.line old_in new_in
+      old new end
   pub shown : Counted E
   pub shows : ShowsOn told is_watched asked.line old_err shown
   pub so_far : Counted E
@@ -264,13 +293,15 @@ EndsUnperformed contents told words fault old new old_err new_err code =
 
 -- the words are a command, which was performed, or none, and then nothing was read
 abbrev pub AnswersWords
-    : {F I W E : Type 0} → (F → Option (List ℕ)) → (I → Option (List ℕ)) → (W → Option (List ℕ))
-    → (E → Option (List ℕ)) → (is_watched : Bool)
+    : {F T I W E : Type 0} → (F → Option (List ℕ)) → (T → Option (List ℕ)) → (FileDeed → Type 0)
+    → (I → Option (List ℕ)) → (W → Option (List ℕ)) → (E → Option (List ℕ)) → (is_watched : Bool)
     → List Text → Counted I → Counted I → Counted W → Counted W → Counted E → Counted E → ℕ → Type 0
-AnswersWords remaining input_left contents told is_watched words old_in new_in old new old_err
+AnswersWords remaining tape_left WasDone input_left contents told is_watched words old_in new_in
+    old new old_err
     new_err code =
     ((asked : Asked) × IsLineOf words asked
-    × AnswersLine remaining input_left contents told is_watched asked old_in new_in old new
+    × AnswersLine remaining tape_left WasDone input_left contents told is_watched asked old_in
+    new_in old new
     old_err new_err code)
     ⊎ ((fault : LineFault) × IsFaultOf words fault
     × EndsUnperformed contents told words fault old new old_err new_err code

@@ -6,7 +6,7 @@ mod on_files;
 mod program;
 mod unperformed;
 
-pub use agent_commands::{Seat, agent_cmd, tape_cmd};
+pub use agent_commands::{AgentFiles, ReadFiles, Seat, agent_cmd, tape_cmd};
 pub use check_commands::{
     BoundForm, CheckTerms, Verdict, bound_cmd, check_cmd, check_fit_cmd, verdict_json,
 };

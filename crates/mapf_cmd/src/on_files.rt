@@ -1,6 +1,6 @@
 //! Each command on its files, which are opened in the order of its words. An error is the file that
 //! can't be opened.
-ghost use Rattle.std.specs.Prelude.{◌≡◌, ◌⊎◌, ◌||◌, MatchBool};
+ghost use Rattle.std.specs.Prelude.{◌≡◌, ◌⊎◌, ◌||◌, IfOk, MatchBool};
 ghost use Rattle.std.specs.Prelude.{MatchOption, MatchResult, string_bytes};
 ghost use Rattle.ending.specs.Ending.{end_of};
 ghost use Rattle.text_commands.specs.RowCommand.{AnswersRow};
@@ -11,11 +11,12 @@ ghost use Rattle.run_commands.specs.RunCommand.{AnswersRun};
 ghost use Rattle.agent_commands.specs.AgentCommand.{AnswersAgent};
 ghost use Rattle.agent_commands.specs.TapeCommand.{AnswersTape, EndsWithoutTape};
 ghost use Rattle.mapf_cmd.specs.Program.{AnswersFleet, AnswersQuery, AnswersText, CheckOn};
-ghost use Rattle.mapf_cmd.specs.Program.{OnFileOrInput, OnTwoFiles, OnThreeFiles, PerformsOn};
+ghost use Rattle.mapf_cmd.specs.Program.{IsJustOpened, OnFileOrInput, OnTwoFiles};
+ghost use Rattle.mapf_cmd.specs.Program.{OnThreeFiles, PerformsOn};
 ghost use Rattle.mapf_cmd.specs.Program.{ShowsOn};
 ghost use Rattle.mapf_cmd.specs.Program.{rows_asked, terms_of};
 
-use agent_commands::{AgentFault, Seat, agent_command, open_to_read, tape_command};
+use agent_commands::{AgentFault, AgentFiles, ReadFiles, Seat, agent_command, tape_command};
 use check_commands::{BoundForm, CheckTerms, bound_command, check_command};
 use command_line::{
     CheckLine, FleetLine, FleetQuery, Line, OptimalLine, PlanQuery, RowsLine, TextQuery,
@@ -27,16 +28,13 @@ use plan_commands::continues_command;
 use proof_commands::optimal_command;
 use run_commands::run_command;
 use std::alloc::Global;
-use std::fs;
 use std::io::{Read, Write};
-use std::rt::Files;
-use tape_claim::LockFile;
 use text_commands::{RowsAsked, row_command, rows_command};
 use text_io::{Counted, Origin};
 
 /// Performs a command on its files. Where `is_watched` is set, `rows` says on `err` how far it has
 /// come.
-pub(crate) fn perform_on_files<R: Files + AllocGlobal, I: Read, W: Write, E: Write>(
+pub(crate) fn perform_on_files<R: AgentFiles + AllocGlobal, I: Read, W: Write, E: Write>(
     rt: &R,
     line: &Line,
     is_watched: bool,
@@ -44,11 +42,9 @@ pub(crate) fn perform_on_files<R: Files + AllocGlobal, I: Read, W: Write, E: Wri
     out: &mut Counted<W>,
     err: &mut Counted<E>,
 ) -> Result<Ending, Origin>
-where
-    R::File: LockFile,
     ensures { MatchResult result
-        (λ ending. PerformsOn R.File.remaining I.remaining W.contents line.now input.old input.new
-        out.old out.new (end_of ending)
+        (λ ending. PerformsOn R.Reader.remaining R.Tape.remaining R.was_done I.remaining
+        W.contents line.now input.old input.new out.old out.new (end_of ending)
         × ShowsOn E.contents is_watched line.now err.old err.new)
         (λ _. (input.new ≡ input.old) × (out.new ≡ out.old) × (err.new ≡ err.old)) }
 {
@@ -91,9 +87,15 @@ where
 }
 
 /// Opens a file to be read. Where that fails, the answer is what the file would be.
-fn open_file<R: Files>(rt: &R, path: &str, origin: Origin) -> Result<R::File, Origin> {
-    match fs::open(rt, path) {
-        Ok(file) => Ok(file),
+fn open_file<R: ReadFiles>(
+    rt: &R,
+    path: &str,
+    origin: Origin,
+) -> Result<Counted<R::Reader>, Origin>
+    ensures { IfOk result (IsJustOpened R.Reader.remaining R.was_done) }
+{
+    match rt.open_input(path) {
+        Ok(file) => Ok(Counted::new(file)),
         Err(_) => Err(origin),
     }
 }
@@ -101,7 +103,7 @@ fn open_file<R: Files>(rt: &R, path: &str, origin: Origin) -> Result<R::File, Or
 /// Answers a query on the one file of a command, or on the input where that is `-`.
 // Compiled by itself, for its room on the stack.
 #[inline(never)]
-fn text_on_file<R: Files + AllocGlobal, I: Read, W: Write>(
+fn text_on_file<R: ReadFiles + AllocGlobal, I: Read, W: Write>(
     rt: &R,
     file: &str,
     query: TextQuery,
@@ -109,16 +111,16 @@ fn text_on_file<R: Files + AllocGlobal, I: Read, W: Write>(
     out: &mut Counted<W>,
 ) -> Result<Ending, Origin>
     ensures { MatchResult result
-        (λ ending. OnFileOrInput file.now
+        (λ ending. OnFileOrInput (IsJustOpened R.Reader.remaining R.was_done) file.now
         (λ a b. AnswersText I.remaining W.contents query a b out.old out.new (end_of ending))
-        (λ a b. AnswersText R.File.remaining W.contents query a b out.old out.new (end_of ending))
+        (λ a b. AnswersText R.Reader.remaining W.contents query a b out.old out.new (end_of ending))
         input.old input.new)
         (λ _. (input.new ≡ input.old) × (out.new ≡ out.old)) }
 {
     match file {
         "-" => Ok(answer_text(rt.alloc(), input, query, out)),
         _ => {
-            let mut text = Counted::new(open_file(rt, file, origin_of(query))?);
+            let mut text = open_file(rt, file, origin_of(query))?;
             Ok(answer_text(rt.alloc(), &mut text, query, out))
         }
     }
@@ -148,7 +150,7 @@ fn origin_of(query: TextQuery) -> Origin {
     }
 }
 
-fn row_on_files<R: Files + AllocGlobal, W: Write>(
+fn row_on_files<R: ReadFiles + AllocGlobal, W: Write>(
     rt: &R,
     map: &str,
     scen: &str,
@@ -156,17 +158,17 @@ fn row_on_files<R: Files + AllocGlobal, W: Write>(
     out: &mut Counted<W>,
 ) -> Result<Ending, Origin>
     ensures { MatchResult result
-        (λ ending. OnTwoFiles
-        (λ a b c d. AnswersRow R.File.remaining R.File.remaining W.contents a b c d row out.old
+        (λ ending. OnTwoFiles (IsJustOpened R.Reader.remaining R.was_done)
+        (λ a b c d. AnswersRow R.Reader.remaining R.Reader.remaining W.contents a b c d row out.old
         out.new (end_of ending)))
         (λ _. out.new ≡ out.old) }
 {
-    let mut map = Counted::new(open_file(rt, map, Origin::Map)?);
-    let mut scen = Counted::new(open_file(rt, scen, Origin::Scenario)?);
+    let mut map = open_file(rt, map, Origin::Map)?;
+    let mut scen = open_file(rt, scen, Origin::Scenario)?;
     Ok(row_command::perform(rt.alloc(), &mut map, &mut scen, row, out))
 }
 
-fn rows_on_files<R: Files + AllocGlobal, W: Write, E: Write>(
+fn rows_on_files<R: ReadFiles + AllocGlobal, W: Write, E: Write>(
     rt: &R,
     line: &RowsLine,
     is_watched: bool,
@@ -174,8 +176,9 @@ fn rows_on_files<R: Files + AllocGlobal, W: Write, E: Write>(
     err: &mut Counted<E>,
 ) -> Result<Ending, Origin>
     ensures { MatchResult result
-        (λ ending. OnTwoFiles (λ a b c d. AnswersRows R.File.remaining R.File.remaining W.contents
-        (rows_asked line.now) a b c d out.old out.new (end_of ending))
+        (λ ending. OnTwoFiles (IsJustOpened R.Reader.remaining R.was_done)
+        (λ a b c d. AnswersRows R.Reader.remaining R.Reader.remaining W.contents (rows_asked
+        line.now) a b c d out.old out.new (end_of ending))
         × ShowsProgress E.contents (line.now.progress || is_watched) err.old err.new)
         (λ _. (out.new ≡ out.old) × (err.new ≡ err.old)) }
 {
@@ -185,8 +188,8 @@ fn rows_on_files<R: Files + AllocGlobal, W: Write, E: Write>(
         straight: line.straight,
         progress: is_shown(line.progress, is_watched),
     };
-    let mut map = Counted::new(open_file(rt, &line.map, Origin::Map)?);
-    let mut scen = Counted::new(open_file(rt, &line.scen, Origin::Scenario)?);
+    let mut map = open_file(rt, &line.map, Origin::Map)?;
+    let mut scen = open_file(rt, &line.scen, Origin::Scenario)?;
     Ok(rows_command::perform(rt.alloc(), &mut map, &mut scen, &asked, out, err))
 }
 
@@ -197,14 +200,14 @@ fn is_shown(is_asked: bool, is_watched: bool) -> bool
     is_asked || is_watched
 }
 
-fn check_on_files<R: Files + AllocGlobal, W: Write>(
+fn check_on_files<R: ReadFiles + AllocGlobal, W: Write>(
     rt: &R,
     line: &CheckLine,
     out: &mut Counted<W>,
 ) -> Result<Ending, Origin>
     ensures { MatchResult result
-        (λ ending. CheckOn R.File.remaining W.contents line.now.scen (terms_of line.now) out.old
-        out.new (end_of ending)) (λ _. out.new ≡ out.old) }
+        (λ ending. CheckOn R.Reader.remaining R.was_done W.contents line.now.scen (terms_of
+        line.now) out.old out.new (end_of ending)) (λ _. out.new ≡ out.old) }
 {
     let terms = CheckTerms {
         due: line.agents,
@@ -213,18 +216,18 @@ fn check_on_files<R: Files + AllocGlobal, W: Write>(
         no_rotation: line.no_rotation,
         json: line.json,
     };
-    let mut map = Counted::new(open_file(rt, &line.map, Origin::Map)?);
-    let mut plan = Counted::new(open_file(rt, &line.plan, Origin::Plan)?);
+    let mut map = open_file(rt, &line.map, Origin::Map)?;
+    let mut plan = open_file(rt, &line.plan, Origin::Plan)?;
     match &line.scen {
         None => Ok(check_command::perform(rt.alloc(), &mut map, &mut plan, &terms, out)),
         Some(scen) => {
-            let mut scen = Counted::new(open_file(rt, scen, Origin::Scenario)?);
+            let mut scen = open_file(rt, scen, Origin::Scenario)?;
             Ok(check_command::perform_fit(rt.alloc(), &mut map, &mut plan, &mut scen, &terms, out))
         }
     }
 }
 
-fn query_on_files<R: Files + AllocGlobal, W: Write>(
+fn query_on_files<R: ReadFiles + AllocGlobal, W: Write>(
     rt: &R,
     map: &str,
     plan: &str,
@@ -232,13 +235,13 @@ fn query_on_files<R: Files + AllocGlobal, W: Write>(
     out: &mut Counted<W>,
 ) -> Result<Ending, Origin>
     ensures { MatchResult result
-        (λ ending. OnTwoFiles
-        (λ a b c d. AnswersQuery R.File.remaining R.File.remaining W.contents query a b c d out.old
-        out.new (end_of ending)))
+        (λ ending. OnTwoFiles (IsJustOpened R.Reader.remaining R.was_done)
+        (λ a b c d. AnswersQuery R.Reader.remaining R.Reader.remaining W.contents query a b c d
+        out.old out.new (end_of ending)))
         (λ _. out.new ≡ out.old) }
 {
-    let mut map = Counted::new(open_file(rt, map, Origin::Map)?);
-    let mut plan = Counted::new(open_file(rt, plan, Origin::Plan)?);
+    let mut map = open_file(rt, map, Origin::Map)?;
+    let mut plan = open_file(rt, plan, Origin::Plan)?;
     Ok(answer_query(rt.alloc(), &mut map, &mut plan, query, out))
 }
 
@@ -273,100 +276,98 @@ fn answer_query<M: Read, P: Read, W: Write>(
     }
 }
 
-fn continues_on_files<R: Files + AllocGlobal, W: Write>(
+fn continues_on_files<R: ReadFiles + AllocGlobal, W: Write>(
     rt: &R,
     paths: [&str; 3],
     out: &mut Counted<W>,
 ) -> Result<Ending, Origin>
     ensures { MatchResult result
-        (λ ending. OnThreeFiles
-        (λ a b c d e f. AnswersContinues R.File.remaining R.File.remaining R.File.remaining
+        (λ ending. OnThreeFiles (IsJustOpened R.Reader.remaining R.was_done)
+        (λ a b c d e f. AnswersContinues R.Reader.remaining R.Reader.remaining R.Reader.remaining
         W.contents a b c d e f out.old out.new (end_of ending)))
         (λ _. out.new ≡ out.old) }
 {
     let [map, old, new] = paths;
-    let mut map = Counted::new(open_file(rt, map, Origin::Map)?);
-    let mut old = Counted::new(open_file(rt, old, Origin::OldPlan)?);
-    let mut new = Counted::new(open_file(rt, new, Origin::Plan)?);
+    let mut map = open_file(rt, map, Origin::Map)?;
+    let mut old = open_file(rt, old, Origin::OldPlan)?;
+    let mut new = open_file(rt, new, Origin::Plan)?;
     Ok(continues_command::perform(rt.alloc(), &mut map, &mut old, &mut new, out))
 }
 
-fn optimal_on_files<R: Files + AllocGlobal, W: Write>(
+fn optimal_on_files<R: ReadFiles + AllocGlobal, W: Write>(
     rt: &R,
     line: &OptimalLine,
     out: &mut Counted<W>,
 ) -> Result<Ending, Origin>
     ensures { MatchResult result
-        (λ ending. OnThreeFiles
-        (λ a b c d e f. AnswersOptimal R.File.remaining R.File.remaining R.File.remaining W.contents
-        line.now.json a b c d e f out.old out.new (end_of ending)))
+        (λ ending. OnThreeFiles (IsJustOpened R.Reader.remaining R.was_done)
+        (λ a b c d e f. AnswersOptimal R.Reader.remaining R.Reader.remaining R.Reader.remaining
+        W.contents line.now.json a b c d e f out.old out.new (end_of ending)))
         (λ _. out.new ≡ out.old) }
 {
-    let mut map = Counted::new(open_file(rt, &line.map, Origin::Map)?);
-    let mut plan = Counted::new(open_file(rt, &line.plan, Origin::Plan)?);
-    let mut proof = Counted::new(open_file(rt, &line.proof, Origin::Proof)?);
+    let mut map = open_file(rt, &line.map, Origin::Map)?;
+    let mut plan = open_file(rt, &line.plan, Origin::Plan)?;
+    let mut proof = open_file(rt, &line.proof, Origin::Proof)?;
     Ok(optimal_command::perform(rt.alloc(), &mut map, &mut plan, &mut proof, line.json, out))
 }
 
-fn run_on_files<R: Files + AllocGlobal, W: Write>(
+fn run_on_files<R: ReadFiles + AllocGlobal, W: Write>(
     rt: &R,
     paths: [&str; 3],
     complete: bool,
     out: &mut Counted<W>,
 ) -> Result<Ending, Origin>
     ensures { MatchResult result
-        (λ ending. OnThreeFiles
-        (λ a b c d e f. AnswersRun R.File.remaining R.File.remaining R.File.remaining W.contents a b
-        c d e f complete out.old out.new (end_of ending)))
+        (λ ending. OnThreeFiles (IsJustOpened R.Reader.remaining R.was_done)
+        (λ a b c d e f. AnswersRun R.Reader.remaining R.Reader.remaining R.Reader.remaining
+        W.contents a b c d e f complete out.old out.new (end_of ending)))
         (λ _. out.new ≡ out.old) }
 {
     let [map, plan, events] = paths;
-    let mut map = Counted::new(open_file(rt, map, Origin::Map)?);
-    let mut plan = Counted::new(open_file(rt, plan, Origin::Plan)?);
-    let mut events = Counted::new(open_file(rt, events, Origin::Events)?);
+    let mut map = open_file(rt, map, Origin::Map)?;
+    let mut plan = open_file(rt, plan, Origin::Plan)?;
+    let mut events = open_file(rt, events, Origin::Events)?;
     Ok(run_command::perform(rt.alloc(), &mut map, &mut plan, &mut events, complete, out))
 }
 
 /// The tape is opened once the plan is read.
-fn agent_on_files<R: Files + AllocGlobal, I: Read, W: Write>(
+fn agent_on_files<R: AgentFiles + AllocGlobal, I: Read, W: Write>(
     rt: &R,
     paths: [&str; 2],
     seat: Seat<'_>,
     input: &mut Counted<I>,
     out: &mut Counted<W>,
 ) -> Result<Ending, Origin>
-where
-    R::File: LockFile,
     ensures { MatchResult result
-        (λ ending. OnTwoFiles
-        (λ a b c d. AnswersAgent R.File.remaining R.File.remaining R.File.remaining I.remaining
-        W.contents seat.entry.claim seat.entry.id a b c d input.old input.new out.old out.new
-        (end_of ending)))
+        (λ ending. OnTwoFiles (IsJustOpened R.Reader.remaining R.was_done)
+        (λ a b c d. AnswersAgent R.Tape.remaining R.was_done R.Reader.remaining R.Reader.remaining
+        I.remaining W.contents seat.entry.claim seat.entry.id a b c d input.old input.new out.old
+        out.new (end_of ending)))
         (λ _. (input.new ≡ input.old) × (out.new ≡ out.old)) }
 {
     let [map, plan] = paths;
-    let mut map = Counted::new(open_file(rt, map, Origin::Map)?);
-    let mut plan = Counted::new(open_file(rt, plan, Origin::Plan)?);
+    let mut map = open_file(rt, map, Origin::Map)?;
+    let mut plan = open_file(rt, plan, Origin::Plan)?;
     Ok(agent_command::perform(rt, &mut map, &mut plan, seat, input, out))
 }
 
 /// No file is written. That the tape has none is a fault of its own.
-fn tape_on_files<R: Files + AllocGlobal, W: Write>(
+fn tape_on_files<R: ReadFiles + AllocGlobal, W: Write>(
     rt: &R,
     paths: [&str; 3],
     id: u16,
     out: &mut Counted<W>,
 ) -> Result<Ending, Origin>
     ensures { MatchResult result
-        (λ ending. OnThreeFiles
-        (λ a b c d e f. AnswersTape R.File.remaining R.File.remaining R.File.remaining W.contents id
-        a b c d e f out.old out.new (end_of ending))
+        (λ ending. OnThreeFiles (IsJustOpened R.Reader.remaining R.was_done)
+        (λ a b c d e f. AnswersTape R.Reader.remaining R.Reader.remaining R.Reader.remaining
+        W.contents id a b c d e f out.old out.new (end_of ending))
         ⊎ (EndsWithoutTape (end_of ending) × (out.new ≡ out.old))) (λ _. out.new ≡ out.old) }
 {
     let [map, plan, tape] = paths;
-    let mut map = Counted::new(open_file(rt, map, Origin::Map)?);
-    let mut plan = Counted::new(open_file(rt, plan, Origin::Plan)?);
-    match open_to_read(rt, tape) {
+    let mut map = open_file(rt, map, Origin::Map)?;
+    let mut plan = open_file(rt, plan, Origin::Plan)?;
+    match rt.open_to_read(tape) {
         Ok(file) => {
             let mut tape = Counted::new(file);
             Ok(tape_command::perform(rt.alloc(), &mut map, &mut plan, id, &mut tape, out))
@@ -377,19 +378,19 @@ fn tape_on_files<R: Files + AllocGlobal, W: Write>(
 }
 
 /// The tapes are opened once the plan is read.
-fn fleet_on_files<R: Files + AllocGlobal, W: Write>(
+fn fleet_on_files<R: ReadFiles + AllocGlobal, W: Write>(
     rt: &R,
     line: &FleetLine,
     out: &mut Counted<W>,
 ) -> Result<Ending, Origin>
     ensures { MatchResult result
-        (λ ending. OnTwoFiles
-        (λ a b c d. AnswersFleet R.File.remaining R.File.remaining R.File.remaining W.contents
+        (λ ending. OnTwoFiles (IsJustOpened R.Reader.remaining R.was_done)
+        (λ a b c d. AnswersFleet R.Reader.remaining R.Reader.remaining R.was_done W.contents
         line.now.query a b c d out.old out.new (end_of ending)))
         (λ _. out.new ≡ out.old) }
 {
-    let mut map = Counted::new(open_file(rt, &line.map, Origin::Map)?);
-    let mut plan = Counted::new(open_file(rt, &line.plan, Origin::Plan)?);
+    let mut map = open_file(rt, &line.map, Origin::Map)?;
+    let mut plan = open_file(rt, &line.plan, Origin::Plan)?;
     let tapes = &line.tapes;
     match line.query {
         FleetQuery::Status { json } => {

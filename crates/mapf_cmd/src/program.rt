@@ -8,13 +8,13 @@ ghost use Rattle.mapf_cmd.specs.Program.{AnswersLine, AnswersWords, Performs, Sh
 use crate::low_leaf::leaf_again;
 use crate::on_files::{file_of, files_of, perform_on_files};
 use crate::unperformed::end_unperformed;
-use agent_commands::name_beside;
+use agent_commands::{AgentFiles, name_beside};
 use command_line::{Asked, Line, OptimalLine, line};
 use ending::{Ending, conclude};
 use explain::{Style, Subject, explain};
 use std::io::{Read, Write};
 use std::rt::Files;
-use tape_claim::{LockFile, TapeClaim};
+use tape_claim::TapeClaim;
 use text_io::{Counted, Failure, FaultWords, Origin};
 
 /// What is known of the error output: how explanations look there, and whether somebody watches it,
@@ -30,7 +30,7 @@ pub struct Screen {
 /// the screen's style, where one is asked for. `rows` says there how far it has come, if somebody
 /// watches. An agent reads `input`, and so do `map` and `scen` where their file is `-`. The answer
 /// is the exit status.
-pub fn run<R: Files + AllocGlobal, I: Read, W: Write, E: Write>(
+pub fn run<R: Files + AgentFiles + AllocGlobal, I: Read, W: Write, E: Write>(
     rt: &R,
     words: &[String],
     screen: Screen,
@@ -38,10 +38,9 @@ pub fn run<R: Files + AllocGlobal, I: Read, W: Write, E: Write>(
     out: &mut Counted<W>,
     err: &mut Counted<E>,
 ) -> u8
-where
-    R::File: LockFile,
-    ensures { AnswersWords R.File.remaining I.remaining W.contents E.contents screen.is_watched
-        (map string_bytes words.now) input.old input.new out.old out.new err.old err.new result }
+    ensures { AnswersWords R.Reader.remaining R.Tape.remaining R.was_done I.remaining W.contents
+        E.contents screen.is_watched (map string_bytes words.now) input.old input.new out.old
+        out.new err.old err.new result }
 {
     match line(rt.alloc(), words) {
         Ok(asked) => answer(rt, &asked, screen, input, out, err),
@@ -50,7 +49,7 @@ where
 }
 
 /// Performs what is asked for, and explains its fault, where that is asked for too.
-fn answer<R: Files + AllocGlobal, I: Read, W: Write, E: Write>(
+fn answer<R: Files + AgentFiles + AllocGlobal, I: Read, W: Write, E: Write>(
     rt: &R,
     asked: &Asked,
     screen: Screen,
@@ -58,10 +57,9 @@ fn answer<R: Files + AllocGlobal, I: Read, W: Write, E: Write>(
     out: &mut Counted<W>,
     err: &mut Counted<E>,
 ) -> u8
-where
-    R::File: LockFile,
-    ensures { AnswersLine R.File.remaining I.remaining W.contents E.contents screen.is_watched
-        asked.now input.old input.new out.old out.new err.old err.new result }
+    ensures { AnswersLine R.Reader.remaining R.Tape.remaining R.was_done I.remaining W.contents
+        E.contents screen.is_watched asked.now input.old input.new out.old out.new err.old err.new
+        result }
 {
     let ending = perform(rt, &asked.line, screen.is_watched, input, out, err);
     let status = conclude(ending, err);
@@ -85,7 +83,7 @@ struct Faults {
 }
 
 /// Performs a command on its files.
-fn perform<R: Files + AllocGlobal, I: Read, W: Write, E: Write>(
+fn perform<R: AgentFiles + AllocGlobal, I: Read, W: Write, E: Write>(
     rt: &R,
     line: &Line,
     is_watched: bool,
@@ -93,10 +91,8 @@ fn perform<R: Files + AllocGlobal, I: Read, W: Write, E: Write>(
     out: &mut Counted<W>,
     err: &mut Counted<E>,
 ) -> Ending
-where
-    R::File: LockFile,
-    ensures performs { Performs R.File.remaining I.remaining W.contents line.now input.old input.new
-        out.old out.new (end_of result) }
+    ensures performs { Performs R.Reader.remaining R.Tape.remaining R.was_done I.remaining
+        W.contents line.now input.old input.new out.old out.new (end_of result) }
     ensures shows { ShowsOn E.contents is_watched line.now err.old err.new }
 {
     match perform_on_files(rt, line, is_watched, input, out, err) {

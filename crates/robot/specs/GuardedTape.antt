@@ -29,9 +29,9 @@ pub record IsUnwritten {F : Type 0} (t : FileTape F) (succeeds : Bool)
   pub fails : HasFailed (file_state t).failures (file_state u).failures
 
 -- The guard let the file be written, and where that took a record, the guard took note of it.
-pub record IsNoted {F G : Type 0} (position : F → Option ℕ) (held contents : F → Option (List ℕ))
-    (IsSynced : F → F → Type 0) (HasAllowed : G → Type 0) (HasNoted : G → G → Type 0)
-    (t : GuardedTape F G) (at : ℕ) (bytes : List ℕ) (succeeds : Bool)
+pub record IsWatchedWrite {F G : Type 0} (position : F → Option ℕ)
+    (held contents : F → Option (List ℕ)) (IsSynced : F → F → Type 0) (HasAllowed : G → Type 0)
+    (HasNoted : G → G → Type 0) (t : GuardedTape F G) (at : ℕ) (bytes : List ℕ) (succeeds : Bool)
     (u : GuardedTape F G) : Type 0 where
   pub allowed : HasAllowed t.guard
   pub writes : IsFileWrite position held contents IsSynced t.tape at bytes succeeds u.tape
@@ -55,7 +55,7 @@ abbrev pub IsGuardedWrite : {F G : Type 0} → (F → Option ℕ) → (F → Opt
     → (F → Option (List ℕ)) → (F → F → Type 0) → (G → Type 0) → (G → G → Type 0)
     → GuardedTape F G → ℕ → List ℕ → Bool → GuardedTape F G → Type 0
 IsGuardedWrite position held contents IsSynced HasAllowed HasNoted t at bytes succeeds u =
-    IsNoted position held contents IsSynced HasAllowed HasNoted t at bytes succeeds u
+    IsWatchedWrite position held contents IsSynced HasAllowed HasNoted t at bytes succeeds u
     ⊎ (IsUnwritten t.tape succeeds u.tape
     ⊎ IsUnnoted position held contents IsSynced HasAllowed t at bytes succeeds u.tape)
 

@@ -1,8 +1,8 @@
 //! Commands that open the files of tapes.
 use crate::endings::{End, Out, Outputs, reader};
 use crate::texts::LANE;
-use mapf_cmd::{LockFile, NewPlan, agent_cmd, anew_cmd, handover_cmd, status_cmd};
-use std::rt::{Env, Files};
+use mapf_cmd::{AgentFiles, NewPlan, agent_cmd, anew_cmd, handover_cmd, status_cmd};
+use std::rt::Env;
 use std::test::Fail;
 use std::{env, fs, io, process};
 
@@ -35,15 +35,13 @@ const ANEW: NewPlan = NewPlan {
 };
 
 /// Performs a command on the tapes that have the agent's number behind these words.
-fn perform<R: Files + AllocGlobal>(
+fn perform<R: AgentFiles + AllocGlobal>(
     rt: &R,
     command: Command,
     tape: &str,
     out: &mut Out<'_>,
     err: &mut Out<'_>,
 ) -> u8
-where
-    R::File: LockFile,
 {
     let (map, plan) = (&mut reader(LANE), &mut reader(ALONE));
     match command {
@@ -57,9 +55,7 @@ where
     }
 }
 
-fn end_of<R: Files + AllocGlobal>(rt: &R, command: Command, tape: &str, text: &str) -> End
-where
-    R::File: LockFile,
+fn end_of<R: AgentFiles + AllocGlobal>(rt: &R, command: Command, tape: &str, text: &str) -> End
 {
     let Ok(mut outputs) = Outputs::new(rt.alloc()) else {
         return End::Wanting;
