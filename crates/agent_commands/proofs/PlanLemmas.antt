@@ -1,12 +1,14 @@
 -- The file beside a tape: what it has, and what comes of comparing it.
-use Rattle.std.proofs.Common.{◌≡◌, ◌≢◌, ◌∙◌, ℕ, ◌<◌, Bool, true, false, List, [], ◌++◌, length, drop, take, Some, None, inl, inr, refl, sym, ap, subst, append_assoc, append-nil, arith}
-use Rattle.std.specs.Prelude.{Option, IfSome, Err, ◌⊎◌}
+use Rattle.std.proofs.Common.{◌≡◌, ◌≢◌, ◌∙◌, ℕ, ◌<◌, ◌≤◌, Bool, true, false, List, [], ◌++◌, length, drop, take, Some, None, inl, inr, refl, sym, ap, subst, append_assoc, append-nil, arith, leb}
+use Rattle.std.specs.Prelude.{Option, IfSome, Err, ◌⊎◌, ◌↔◌}
 use Rattle.std.proofs.Math.Seq.{take-append_seam}
+use Rattle.std.proofs.lemmas.Bool.{le-leb, leb-true}
 use Rattle.std.proofs.lemmas.List.{length-append}
 use Rattle.std.specs.Io.KnownBytes.{Consumes, IsAtEnd}
 use Rattle.std.proofs.KnownBytes.{Consumes-all, Consumes-trans}
 use Rattle.text_io.specs.Reading.{IsFirstFault, OutcomeSays, at_end, Decides}
 use Rattle.text_io.specs.Text.{BeginsWith}
+use Rattle.model.specs.History.{record_length}
 use Rattle.model.specs.Plan.{Plan}
 use Rattle.plan_text.specs.declared.plan_text_fault.PlanTextFault.{PlanTextFault}
 use Rattle.plan_text.specs.declared.plan_text_fault.PlanTextFault.TheVariants.{BadHeader, BadNumber, TooMany, BadAgent, BadAct, Unfinished, TextAfter, ReadFailed, OutOfMemory}
@@ -14,10 +16,12 @@ use Rattle.plan_text.specs.PlanText.{PlanText}
 use Rattle.plan_text.specs.PlanTextFault.{PlanTextFaultAt, plan_outcome}
 use Rattle.agent_commands.specs.FileDeeds.{FileDeed}
 use Rattle.agent_commands.specs.FileDeeds.FileDeed.{opens_file}
-use Rattle.agent_commands.specs.KeptPlan.{HasMark, IsKeptIn, IsThere, KeptText, mark_line}
+use Rattle.agent_commands.specs.KeptPlan.{HasMark, IsKeptIn, KeptText, mark_line}
+use Rattle.robot.specs.FileTape.{file_state}
+use Rattle.robot.specs.declared.file_tape.FileTape.{FileTape}
 use Rattle.tape_claim.specs.declared.TapeClaim.{TapeClaim}
 use Rattle.tape_claim.specs.declared.TapeClaim.TheVariants.{Any, New, Kept}
-use Rattle.agent_commands.specs.AgentCommand.{IsPlanKept}
+use Rattle.agent_commands.specs.AgentCommand.{IsLeftBeside, IsPlanKept}
 use Rattle.agent_commands.specs.Code.Plans.{IsDueTask, IsKeptTask, IsNoTaskFor, IsNotLetBy, IsNotRead, IsTaskDone, IsTermsFor, ReadsMark, blame_of, claim_of}
 use Rattle.agent_commands.specs.declared.kept_plan.PlanTask.{PlanTask}
 use Rattle.agent_commands.specs.declared.kept_plan.PlanTask.TheVariants.{Nothing, Sync, Mark, Write}
@@ -171,33 +175,66 @@ not_read WasDone all p has_record (Planned fault) done why = absurd why
 not_read WasDone all p has_record (Tape fault) done why = absurd why
 not_read WasDone all p has_record (Dialogue fault) done why = absurd why
 
+-- a test of how long a tape is tells whether it has a record
+pub has_enough : (n m : ℕ) → n ≡ m → (leb 10 n ≡ true ↔ 10 ≤ m)
+has_enough n m same = (λ yes. subst (λ k. 10 ≤ k) same (leb-true 10 n yes), λ enough. le-leb 10 n (subst (λ k. 10 ≤ k) (sym same) enough))
+
+few_of : (b : Bool) (n m : ℕ) → (b ≡ true ↔ m ≤ n) → b ≡ false → n < m
+few_of b n m is bare = let yes = is.1 in grind arith
+
 -- what is still to be done where a plan is kept that is the one at hand, or not
-pub due_of : (WasDone : FileDeed → Type 0) (p : Plan) (has_record : Bool) (task : PlanTask) → IsKeptTask WasDone p has_record task → IsDueTask WasDone Kept p task
-due_of WasDone p has_record task h = λ other. (h.0, h.1, (h.2.0.is_marked, subst (λ q. IsKeptIn h.0 h.2.0.is_marked q) (sym (h.2.2.same other)) h.2.1))
+pub due_of
+    : {F : Type 0} (WasDone : FileDeed → Type 0) (p : Plan) (t : FileTape F) (has_record : Bool) (task : PlanTask)
+    → (has_record ≡ true ↔ record_length ≤ length (file_state t).contents) → IsKeptTask WasDone p has_record task → IsDueTask WasDone Kept p t task
+due_of WasDone p t has_record task is h = λ other. (
+  h.0,
+  h.1,
+  (
+    h.2.0.is_marked,
+    subst (λ q. IsKeptIn h.0 h.2.0.is_marked q) (sym (h.2.2.same other)) h.2.1,
+    h.2.2.marked,
+    λ nothing. few_of has_record _ _ is (h.2.2.bare nothing),
+  ),
+)
+
+-- a file that was found has the plan at hand, and a mark where the tape has a record
+left_beside
+    : {F : Type 0} (WasDone : FileDeed → Type 0) (t : Terms) (p : Plan) (tape : FileTape F) (has_record : Bool) (task : PlanTask)
+    → task ≢ Write → IsDueTask WasDone Kept p tape task → IsTaskDone WasDone t has_record task → IsLeftBeside WasDone p tape
+left_beside WasDone t p tape has_record Write other due done = absurd (other refl)
+left_beside WasDone t p tape has_record Nothing other due done =
+    let d = due other in (d.0, d.1, (d.2.0, d.2.1, λ has. let few = d.2.3 refl in absurd (omega (arith, has, few))))
+left_beside WasDone t p tape has_record Sync other due done = let d = due other in (d.0, d.1, (d.2.0, d.2.1, λ has. inl (d.2.2 refl)))
+left_beside WasDone t p tape has_record Mark other due done = let d = due other in (d.0, d.1, (d.2.0, d.2.1, λ has. inr done.0))
 
 -- where that is done, the plan at hand is kept
-put_or_there : (WasDone : FileDeed → Type 0) (t : Terms) (p : Plan) (has_record : Bool) (task : PlanTask) → t ≡ Kept_terms p → IsDueTask WasDone Kept p task
-    → IsTaskDone WasDone t has_record task → IsPlanKept WasDone Kept p
-put_or_there WasDone t p has_record Write is due done = inl (has_record, subst (λ k. IsTaskDone WasDone k has_record Write) is done)
-put_or_there WasDone t p has_record Nothing is due done = inr (due (λ same. cc))
-put_or_there WasDone t p has_record Sync is due done = inr (due (λ same. cc))
-put_or_there WasDone t p has_record Mark is due done = inr (due (λ same. cc))
+put_or_there
+    : {F : Type 0} (WasDone : FileDeed → Type 0) (t : Terms) (p : Plan) (tape : FileTape F) (has_record : Bool) (task : PlanTask)
+    → (has_record ≡ true ↔ record_length ≤ length (file_state tape).contents) → t ≡ Kept_terms p → IsDueTask WasDone Kept p tape task
+    → IsTaskDone WasDone t has_record task → IsPlanKept WasDone Kept p tape
+put_or_there WasDone t p tape has_record Write has is due done = inl (has_record, has, subst (λ k. IsTaskDone WasDone k has_record Write) is done)
+put_or_there WasDone t p tape has_record Nothing has is due done = inr (left_beside WasDone t p tape has_record Nothing (λ same. cc) due done)
+put_or_there WasDone t p tape has_record Sync has is due done = inr (left_beside WasDone t p tape has_record Sync (λ same. cc) due done)
+put_or_there WasDone t p tape has_record Mark has is due done = inr (left_beside WasDone t p tape has_record Mark (λ same. cc) due done)
 
-pub plan_kept : (WasDone : FileDeed → Type 0) (claim : TapeClaim) (t : Terms) (p : Plan) (has_record : Bool) (task : PlanTask) → IsTermsFor claim p t
-    → IsDueTask WasDone claim p task → IsTaskDone WasDone t has_record task → IsPlanKept WasDone claim p
-plan_kept WasDone Any t p has_record task is due done = tt
-plan_kept WasDone New t p has_record task is due done =
-    inl (has_record, subst (λ k. IsTaskDone WasDone k has_record Write) is (subst (IsTaskDone WasDone t has_record) due done))
-plan_kept WasDone Kept t p has_record task is due done = put_or_there WasDone t p has_record task is due done
+pub plan_kept
+    : {F : Type 0} (WasDone : FileDeed → Type 0) (claim : TapeClaim) (t : Terms) (p : Plan) (tape : FileTape F) (has_record : Bool) (task : PlanTask)
+    → (has_record ≡ true ↔ record_length ≤ length (file_state tape).contents) → IsTermsFor claim p t → IsDueTask WasDone claim p tape task
+    → IsTaskDone WasDone t has_record task → IsPlanKept WasDone claim p tape
+plan_kept WasDone Any t p tape has_record task has is due done = tt
+plan_kept WasDone New t p tape has_record task has is due done =
+    inl (has_record, has, subst (λ k. IsTaskDone WasDone k has_record Write) is (subst (IsTaskDone WasDone t has_record) due done))
+plan_kept WasDone Kept t p tape has_record task has is due done = put_or_there WasDone t p tape has_record task has is due done
 
 kept_of : Plan → Terms → Plan
 kept_of other (Kept_terms p) = p
 kept_of other t = other
 
 -- and where the terms are to keep a plan
-pub due_on : (WasDone : FileDeed → Type 0) (t : Terms) (q p : Plan) (task : PlanTask) → t ≡ Kept_terms q → IsTermsFor (claim_of t) p t → IsDueTask WasDone Kept q task
-    → IsDueTask WasDone (claim_of t) p task
+pub due_on
+    : {F : Type 0} (WasDone : FileDeed → Type 0) (t : Terms) (q p : Plan) (tape : FileTape F) (task : PlanTask) → t ≡ Kept_terms q → IsTermsFor (claim_of t) p t
+    → IsDueTask WasDone Kept q tape task → IsDueTask WasDone (claim_of t) p tape task
 unfolding kept_of
-due_on WasDone Any_terms q p task is on due = cc
-due_on WasDone (New_terms r) q p task is on due = cc
-due_on WasDone (Kept_terms r) q p task is on due = λ other. subst (IsThere WasDone) (ap (kept_of q) (sym is ∙ on)) (due other)
+due_on WasDone Any_terms q p tape task is on due = cc
+due_on WasDone (New_terms r) q p tape task is on due = cc
+due_on WasDone (Kept_terms r) q p tape task is on due = subst (λ x. IsDueTask WasDone Kept x tape task) (ap (kept_of q) (sym is ∙ on)) due

@@ -127,7 +127,8 @@ is_beside WasDone p t has_record task enough h = record {
 }
 
 -- a tape that was opened of an agent's file is taken, or isn't
-pub take_ends : {F : Type 0} (remaining : F → Option (List ℕ)) (WasDone : FileDeed → Type 0) (claim : TapeClaim) (p : Plan) (table : Timetable) (i : ℕ) (t : FileTape F) (r : Result (TakenTape F) AgentFault)
+pub take_ends : {F : Type 0} (remaining : F → Option (List ℕ)) (WasDone : FileDeed → Type 0) (claim : TapeClaim) (p : Plan) (table : Timetable) (i : ℕ) (t : FileTape F)
+    (r : Result (TakenTape F) AgentFault)
     → IsTapeOf remaining WasDone table i t → MatchResult r (λ u. IsTakenTape WasDone claim p t u.tape) (IsNotTaken WasDone claim p t)
     → MatchResult r (λ u. IsTapeOf remaining WasDone table i u.tape × IsClaimed WasDone claim p u.tape) (IsNoTape remaining WasDone claim p table i)
 take_ends remaining WasDone claim p table i t (Ok u) of h = ((of.0, of.1, (of.2.0, of.2.1, same_image remaining of.2.0 _ t u.tape h.0 of.2.2)), h.1)

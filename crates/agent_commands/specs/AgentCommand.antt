@@ -1,6 +1,6 @@
 -- What `mapf agent` does and answers.
 use Rattle.std.specs.Prelude.{◌≡◌, ◌≢◌, ℕ, ◌+◌, ◌*◌, ◌<◌, ◌≤◌}
-use Rattle.std.specs.Prelude.{◌⊎◌, Bool, true, false, List, length, Option}
+use Rattle.std.specs.Prelude.{◌⊎◌, ◌↔◌, Bool, true, false, List, length, Option}
 use Rattle.std.specs.Prelude.{None, Some, IfSome, Result, Ok, Err, MatchResult}
 use Rattle.text_io.specs.declared.counted.Counted.{Counted}
 use Rattle.model.specs.History.{record_length}
@@ -27,9 +27,9 @@ use Rattle.ending.specs.Ending.{End, answered_with, gave_up}
 use Rattle.agent_commands.specs.FaultWords.{agent_fault_words}
 use Rattle.agent_commands.specs.FileDeeds.{FileDeed, FindsFile}
 use Rattle.agent_commands.specs.FileDeeds.FileDeed.{finds_none, cannot_open, opens_file}
-use Rattle.agent_commands.specs.FileDeeds.FileDeed.{keeps_name}
+use Rattle.agent_commands.specs.FileDeeds.FileDeed.{keeps_name, sets_mark}
 use Rattle.agent_commands.specs.KeptPlan.{HasMark, HasNoPlan, IsAkin, IsFreeBeside, IsKeptIn}
-use Rattle.agent_commands.specs.KeptPlan.{IsOtherPlan, IsPutBeside, IsThere}
+use Rattle.agent_commands.specs.KeptPlan.{IsOtherPlan, IsPlanPut}
 use Rattle.agent_commands.specs.declared.agent_fault.AgentFault.{AgentFault}
 use Rattle.agent_commands.specs.declared.agent_fault.AgentFault.TheVariants.{Planned}
 use Rattle.agent_commands.specs.declared.agent_fault.AgentFault.TheVariants.{OpenFailed}
@@ -80,11 +80,23 @@ IsClaimed WasDone New p tape =
     × (tape.disk.synced ≡ true) × WasDone keeps_name
 IsClaimed WasDone Kept p tape = IsBeside WasDone p tape × IsNamed WasDone tape
 
--- the file beside a tape of which something is claimed has the plan at hand: it was put there, or
--- found there
-abbrev pub IsPlanKept : (FileDeed → Type 0) → TapeClaim → Plan → Type 0
-IsPlanKept WasDone Any p = Unit {0}
-IsPlanKept WasDone claim p = IsPutBeside WasDone p ⊎ IsThere WasDone p
+-- the plan at hand was put beside a tape, with a mark exactly where the tape has a record
+abbrev pub IsPutBeside : {F : Type 0} → (FileDeed → Type 0) → Plan → FileTape F → Type 0
+IsPutBeside WasDone p tape =
+    (marked : Bool) × (marked ≡ true ↔ record_length ≤ length (file_state tape).contents)
+    × IsPlanPut WasDone p marked
+
+-- it was found there, with a mark where the tape has a record, or that was set then
+abbrev pub IsLeftBeside : {F : Type 0} → (FileDeed → Type 0) → Plan → FileTape F → Type 0
+IsLeftBeside WasDone p tape =
+    FindsFile WasDone (λ all. (marked : Bool) × IsKeptIn all marked p
+    × (record_length ≤ length (file_state tape).contents
+    → (marked ≡ true) ⊎ WasDone sets_mark))
+
+-- the file beside a tape of which something is claimed has the plan at hand
+abbrev pub IsPlanKept : {F : Type 0} → (FileDeed → Type 0) → TapeClaim → Plan → FileTape F → Type 0
+IsPlanKept WasDone Any p tape = Unit {0}
+IsPlanKept WasDone claim p tape = IsPutBeside WasDone p tape ⊎ IsLeftBeside WasDone p tape
 
 -- Why the plan beside a tape of which something is claimed doesn't let it be taken: it is none; it
 -- says that a record was stored on a tape that has none; or that at hand is another, beside one
@@ -148,7 +160,7 @@ abbrev pub IsOnTape : {F : Type 0} → (F → Option (List ℕ)) → (FileDeed �
     → Plan → Timetable → ℕ → AgentOn (FileTape F) → Type 0
 IsOnTape {F} remaining WasDone claim p tt i agent =
     (tape : FileTape F) × IsTapeOf remaining WasDone tt i tape × IsClaimed WasDone claim p tape
-    × IsOpened file_state IsFileRead tt i tape agent × IsPlanKept WasDone claim p
+    × IsOpened file_state IsFileRead tt i tape agent × IsPlanKept WasDone claim p tape
 
 -- A tape was opened of which the claim holds, and was refused for this fault, with what it had.
 pub record IsRefusedTape {F : Type 0} (remaining : F → Option (List ℕ))

@@ -72,9 +72,6 @@ pub record IsPlanPut (WasDone : FileDeed → Type 0) (p : Plan) (marked : Bool) 
   pub put : WasDone (puts_draft after)
   pub named : WasDone keeps_name
 
-abbrev pub IsPutBeside : (FileDeed → Type 0) → Plan → Type 0
-IsPutBeside WasDone p = (marked : Bool) × IsPlanPut WasDone p marked
-
 -- The plan at hand is the kept one, or goes on from it; or the kept one goes on from that at hand,
 -- and what it adds is taken back.
 abbrev pub IsAkin : Plan → Plan → Type 0

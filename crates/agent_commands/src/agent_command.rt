@@ -69,7 +69,7 @@ pub fn perform<R: AgentFiles + AllocGlobal, M: Read, P: Read, I: Read, W: Write>
     out: &mut Counted<W>,
 ) -> Ending
     ensures { AnswersAgent R.Tape.remaining R.was_done M.remaining P.remaining I.remaining
-    W.contents
+        W.contents
         seat.entry.claim seat.entry.id map.old map.new
         plan.old plan.new input.old input.new out.old out.new (end_of result) }
 {

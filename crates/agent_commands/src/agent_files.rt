@@ -136,15 +136,13 @@ impl AgentFiles for HostRuntime {
 
     fn make_draft(&self, draft: &DraftName) -> io::Result<File> {
         let _ = fs::remove_file(self, draft.as_str());
-        OpenOptions::new().write(true).create_new(true).open(self, draft.as_str())
+        OpenOptions::new()
+            .write(true)
+            .create_new(true)
+            .open(self, draft.as_str())
     }
 
-    fn put_draft(
-        &self,
-        file: Counted<File>,
-        draft: &DraftName,
-        name: &BesideName,
-    ) -> io::Result<()>
+    fn put_draft(&self, file: Counted<File>, draft: &DraftName, name: &BesideName) -> io::Result<()>
         ensures { OnOk result (Unit {0}) }
     {
         let mut file = file;
@@ -199,7 +197,10 @@ fn regular_id<F: OpenFile>(file: &F) -> Option<FileId> {
 
 /// Opens the file beside a tape to be written.
 fn open_again<R: Files>(rt: &R, name: &BesideName) -> io::Result<R::File> {
-    OpenOptions::new().read(true).write(true).open(rt, name.as_str())
+    OpenOptions::new()
+        .read(true)
+        .write(true)
+        .open(rt, name.as_str())
 }
 
 /// Writes the mark of a stored record.

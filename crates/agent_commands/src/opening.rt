@@ -76,7 +76,7 @@ fn open_tape<'a, R: AgentFiles + AllocGlobal>(
         × IsClaimed R.was_done (claim_of terms.now) p it.tape.tape)
         (IsNoTape R.Tape.remaining R.was_done (claim_of terms.now) p tt part.now.agent) }
     ensures due { (p : Plan) → IsTermsFor (claim_of terms.now) p terms.now
-        → IfOk result (λ it. IsDueTask R.was_done (claim_of terms.now) p it.task) }
+        → IfOk result (λ it. IsDueTask R.was_done (claim_of terms.now) p it.tape.tape it.task) }
     ensures marks { IfOk result
         (λ it. MarksLater (claim_of terms.now) it.tape.tape it.tape.guard.unmarked) }
 {
@@ -135,7 +135,7 @@ fn take_tape<R: AgentFiles + AllocGlobal>(
         (λ taken. IsTakenTape R.was_done (claim_of terms.now) p tape taken.tape)
         (IsNotTaken R.was_done (claim_of terms.now) p tape) }
     ensures due { (p : Plan) → IsTermsFor (claim_of terms.now) p terms.now
-        → IfOk result (λ taken. IsDueTask R.was_done (claim_of terms.now) p taken.task) }
+        → IfOk result (λ taken. IsDueTask R.was_done (claim_of terms.now) p taken.tape taken.task) }
 {
     match terms {
         Terms::Any => take_any_tape(rt, path, tape),
@@ -196,7 +196,7 @@ fn take_kept_tape<R: AgentFiles + AllocGlobal>(
         (λ taken. IsTakenTape R.was_done TapeClaim.Kept plan.now tape taken.tape)
         (IsNotTaken R.was_done TapeClaim.Kept plan.now tape) }
     ensures due { IfOk result
-        (λ taken. IsDueTask R.was_done TapeClaim.Kept plan.now taken.task) }
+        (λ taken. IsDueTask R.was_done TapeClaim.Kept plan.now taken.tape taken.task) }
 {
     let task = look_beside_kept(rt, path, plan, has_record(&tape))?;
     keep_made_name(rt, path, &tape)?;

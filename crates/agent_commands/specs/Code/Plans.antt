@@ -23,7 +23,7 @@ use Rattle.agent_commands.specs.FileDeeds.{FileDeed, FindsFile}
 use Rattle.agent_commands.specs.FileDeeds.FileDeed.{finds_none, cannot_open, keeps_name}
 use Rattle.agent_commands.specs.FileDeeds.FileDeed.{sets_mark, syncs_beside}
 use Rattle.agent_commands.specs.KeptPlan.{HasMark, HasNoPlan, IsAkin}
-use Rattle.agent_commands.specs.KeptPlan.{IsKeptIn, IsOtherPlan, IsPlanPut, IsThere, mark_line}
+use Rattle.agent_commands.specs.KeptPlan.{IsKeptIn, IsOtherPlan, IsPlanPut, mark_line}
 use Rattle.agent_commands.specs.declared.agent_fault.AgentFault.{AgentFault}
 use Rattle.agent_commands.specs.declared.agent_fault.AgentFault.TheVariants.{OpenFailed, NoTape}
 use Rattle.agent_commands.specs.declared.agent_fault.AgentFault.TheVariants.{File, PlanDamaged}
@@ -148,11 +148,17 @@ IsTaskDone WasDone (terms.New p) has_record Write = IsPlanPut WasDone p has_reco
 IsTaskDone WasDone (terms.Kept p) has_record Write = IsPlanPut WasDone p has_record
 
 -- What is still to be done where a tape is taken: nothing is kept of a plan where any is taken; a
--- new one has its plan written; and where that of a kept one isn't, it is there.
-abbrev pub IsDueTask : (FileDeed → Type 0) → TapeClaim → Plan → PlanTask → Type 0
-IsDueTask WasDone claim.Any p task = task ≡ Nothing
-IsDueTask WasDone claim.New p task = task ≡ Write
-IsDueTask WasDone claim.Kept p task = task ≢ Write → IsThere WasDone p
+-- new one has its plan written; and where that of a kept one isn't, it is there, with a mark where
+-- none is set.
+abbrev pub IsDueTask
+    : {F : Type 0} → (FileDeed → Type 0) → TapeClaim → Plan → FileTape F → PlanTask → Type 0
+IsDueTask WasDone claim.Any p tape task = task ≡ Nothing
+IsDueTask WasDone claim.New p tape task = task ≡ Write
+IsDueTask WasDone claim.Kept p tape task =
+    task ≢ Write
+    → FindsFile WasDone (λ all. (marked : Bool) × IsKeptIn all marked p
+    × (task ≡ Sync → marked ≡ true)
+    × (task ≡ Nothing → length (file_state tape).contents < record_length))
 
 -- the file beside the tape is to be marked when the first record is stored
 abbrev pub is_still_unmarked : Terms → (has_record : Bool) → Bool
