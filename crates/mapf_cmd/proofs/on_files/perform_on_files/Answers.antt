@@ -10,7 +10,8 @@ use Rattle.mapf_cmd.proofs.on_files.perform_on_files.Goals as goal
 pub returns-in-Row : goal.returns-in-Row
 returns-in-Row g c =
     let done = c.row_on_files in
-    let Ends : Line → Type 0 = λ line. MatchResult done.result (λ ending. PerformsOn g.R.Reader.Read.remaining g.R.Tape.Read.remaining g.R.ReadFiles.was_done g.I.Read.remaining g.W.Write.contents line c.args.input.now c.args.input.now c.args.out.now
+    let Ends : Line → Type 0 = λ line. MatchResult done.result (λ ending. PerformsOn g.R.Reader.Read.remaining g.R.Tape.Read.remaining g.R.ReadFiles.was_done g.I.Read.remaining
+    g.W.Write.contents line c.args.input.now c.args.input.now c.args.out.now
     done.new.out (end_of ending) × ShowsOn g.E.Write.contents c.args.is_watched line c.args.err.now c.args.err.now)
     (λ _. (c.args.input.now ≡ c.args.input.now) × (done.new.out ≡ c.args.out.now) × (c.args.err.now ≡ c.args.err.now)) in
     subst Ends (sym c.in-Row.is) (MatchResult-weaker done.result done.ensures (λ _ on. ((on, refl), refl)) (λ _ kept. (refl, kept, refl)))
@@ -18,7 +19,8 @@ returns-in-Row g c =
 pub returns-in-Query : goal.returns-in-Query
 returns-in-Query g c =
     let done = c.query_on_files in
-    let Ends : Line → Type 0 = λ line. MatchResult done.result (λ ending. PerformsOn g.R.Reader.Read.remaining g.R.Tape.Read.remaining g.R.ReadFiles.was_done g.I.Read.remaining g.W.Write.contents line c.args.input.now c.args.input.now c.args.out.now
+    let Ends : Line → Type 0 = λ line. MatchResult done.result (λ ending. PerformsOn g.R.Reader.Read.remaining g.R.Tape.Read.remaining g.R.ReadFiles.was_done g.I.Read.remaining
+    g.W.Write.contents line c.args.input.now c.args.input.now c.args.out.now
     done.new.out (end_of ending) × ShowsOn g.E.Write.contents c.args.is_watched line c.args.err.now c.args.err.now)
     (λ _. (c.args.input.now ≡ c.args.input.now) × (done.new.out ≡ c.args.out.now) × (c.args.err.now ≡ c.args.err.now)) in
     subst Ends (sym c.in-Query.is) (MatchResult-weaker done.result done.ensures (λ _ on. ((on, refl), refl)) (λ _ kept. (refl, kept, refl)))
@@ -26,7 +28,8 @@ returns-in-Query g c =
 pub returns-in-Continues : goal.returns-in-Continues
 returns-in-Continues g c =
     let done = c.continues_on_files in
-    let Ends : Line → Type 0 = λ line. MatchResult done.result (λ ending. PerformsOn g.R.Reader.Read.remaining g.R.Tape.Read.remaining g.R.ReadFiles.was_done g.I.Read.remaining g.W.Write.contents line c.args.input.now c.args.input.now c.args.out.now
+    let Ends : Line → Type 0 = λ line. MatchResult done.result (λ ending. PerformsOn g.R.Reader.Read.remaining g.R.Tape.Read.remaining g.R.ReadFiles.was_done g.I.Read.remaining
+    g.W.Write.contents line c.args.input.now c.args.input.now c.args.out.now
     done.new.out (end_of ending) × ShowsOn g.E.Write.contents c.args.is_watched line c.args.err.now c.args.err.now)
     (λ _. (c.args.input.now ≡ c.args.input.now) × (done.new.out ≡ c.args.out.now) × (c.args.err.now ≡ c.args.err.now)) in
     subst Ends (sym c.in-Continues.is) (MatchResult-weaker done.result done.ensures (λ _ on. ((on, refl), refl)) (λ _ kept. (refl, kept, refl)))
@@ -34,7 +37,8 @@ returns-in-Continues g c =
 pub returns-in-Optimal : goal.returns-in-Optimal
 returns-in-Optimal g c =
     let done = c.optimal_on_files in
-    let Ends : Line → Type 0 = λ line. MatchResult done.result (λ ending. PerformsOn g.R.Reader.Read.remaining g.R.Tape.Read.remaining g.R.ReadFiles.was_done g.I.Read.remaining g.W.Write.contents line c.args.input.now c.args.input.now c.args.out.now
+    let Ends : Line → Type 0 = λ line. MatchResult done.result (λ ending. PerformsOn g.R.Reader.Read.remaining g.R.Tape.Read.remaining g.R.ReadFiles.was_done g.I.Read.remaining
+    g.W.Write.contents line c.args.input.now c.args.input.now c.args.out.now
     done.new.out (end_of ending) × ShowsOn g.E.Write.contents c.args.is_watched line c.args.err.now c.args.err.now)
     (λ _. (c.args.input.now ≡ c.args.input.now) × (done.new.out ≡ c.args.out.now) × (c.args.err.now ≡ c.args.err.now)) in
     subst Ends (sym c.in-Optimal.is) (MatchResult-weaker done.result done.ensures (λ _ on. ((on, refl), refl)) (λ _ kept. (refl, kept, refl)))
@@ -42,7 +46,8 @@ returns-in-Optimal g c =
 pub returns-in-Run : goal.returns-in-Run
 returns-in-Run g c =
     let done = c.run_on_files in
-    let Ends : Line → Type 0 = λ line. MatchResult done.result (λ ending. PerformsOn g.R.Reader.Read.remaining g.R.Tape.Read.remaining g.R.ReadFiles.was_done g.I.Read.remaining g.W.Write.contents line c.args.input.now c.args.input.now c.args.out.now
+    let Ends : Line → Type 0 = λ line. MatchResult done.result (λ ending. PerformsOn g.R.Reader.Read.remaining g.R.Tape.Read.remaining g.R.ReadFiles.was_done g.I.Read.remaining
+    g.W.Write.contents line c.args.input.now c.args.input.now c.args.out.now
     done.new.out (end_of ending) × ShowsOn g.E.Write.contents c.args.is_watched line c.args.err.now c.args.err.now)
     (λ _. (c.args.input.now ≡ c.args.input.now) × (done.new.out ≡ c.args.out.now) × (c.args.err.now ≡ c.args.err.now)) in
     subst Ends (sym c.in-Run.is) (MatchResult-weaker done.result done.ensures (λ _ on. ((on, refl), refl)) (λ _ kept. (refl, kept, refl)))
@@ -50,7 +55,8 @@ returns-in-Run g c =
 pub returns-in-Tape : goal.returns-in-Tape
 returns-in-Tape g c =
     let done = c.tape_on_files in
-    let Ends : Line → Type 0 = λ line. MatchResult done.result (λ ending. PerformsOn g.R.Reader.Read.remaining g.R.Tape.Read.remaining g.R.ReadFiles.was_done g.I.Read.remaining g.W.Write.contents line c.args.input.now c.args.input.now c.args.out.now
+    let Ends : Line → Type 0 = λ line. MatchResult done.result (λ ending. PerformsOn g.R.Reader.Read.remaining g.R.Tape.Read.remaining g.R.ReadFiles.was_done g.I.Read.remaining
+    g.W.Write.contents line c.args.input.now c.args.input.now c.args.out.now
     done.new.out (end_of ending) × ShowsOn g.E.Write.contents c.args.is_watched line c.args.err.now c.args.err.now)
     (λ _. (c.args.input.now ≡ c.args.input.now) × (done.new.out ≡ c.args.out.now) × (c.args.err.now ≡ c.args.err.now)) in
     subst Ends (sym c.in-Tape.is) (MatchResult-weaker done.result done.ensures (λ _ on. ((on, refl), refl)) (λ _ kept. (refl, kept, refl)))
@@ -58,7 +64,8 @@ returns-in-Tape g c =
 pub returns-in-Fleet : goal.returns-in-Fleet
 returns-in-Fleet g c =
     let done = c.fleet_on_files in
-    let Ends : Line → Type 0 = λ line. MatchResult done.result (λ ending. PerformsOn g.R.Reader.Read.remaining g.R.Tape.Read.remaining g.R.ReadFiles.was_done g.I.Read.remaining g.W.Write.contents line c.args.input.now c.args.input.now c.args.out.now
+    let Ends : Line → Type 0 = λ line. MatchResult done.result (λ ending. PerformsOn g.R.Reader.Read.remaining g.R.Tape.Read.remaining g.R.ReadFiles.was_done g.I.Read.remaining
+    g.W.Write.contents line c.args.input.now c.args.input.now c.args.out.now
     done.new.out (end_of ending) × ShowsOn g.E.Write.contents c.args.is_watched line c.args.err.now c.args.err.now)
     (λ _. (c.args.input.now ≡ c.args.input.now) × (done.new.out ≡ c.args.out.now) × (c.args.err.now ≡ c.args.err.now)) in
     subst Ends (sym c.in-Fleet.is) (MatchResult-weaker done.result done.ensures (λ _ on. ((on, refl), refl)) (λ _ kept. (refl, kept, refl)))
@@ -66,10 +73,12 @@ returns-in-Fleet g c =
 pub returns-in-Text : goal.returns-in-Text
 returns-in-Text g c =
     let done = c.text_on_file in
-    let Ends : Line → Type 0 = λ line. MatchResult done.result (λ ending. PerformsOn g.R.Reader.Read.remaining g.R.Tape.Read.remaining g.R.ReadFiles.was_done g.I.Read.remaining g.W.Write.contents line c.args.input.now done.new.input c.args.out.now
+    let Ends : Line → Type 0 = λ line. MatchResult done.result (λ ending. PerformsOn g.R.Reader.Read.remaining g.R.Tape.Read.remaining g.R.ReadFiles.was_done g.I.Read.remaining
+    g.W.Write.contents line c.args.input.now done.new.input c.args.out.now
     done.new.out (end_of ending) × ShowsOn g.E.Write.contents c.args.is_watched line c.args.err.now c.args.err.now)
     (λ _. (done.new.input ≡ c.args.input.now) × (done.new.out ≡ c.args.out.now) × (c.args.err.now ≡ c.args.err.now)) in
-    let Answers : Text → End → Type 0 = λ file end. OnFileOrInput (IsJustOpened g.R.Reader.Read.remaining g.R.ReadFiles.was_done) file (λ p q. AnswersText g.I.Read.remaining g.W.Write.contents c.in-Text.query p q c.args.out.now done.new.out end)
+    let Answers : Text → End → Type 0 = λ file end. OnFileOrInput (IsJustOpened g.R.Reader.Read.remaining g.R.ReadFiles.was_done) file
+    (λ p q. AnswersText g.I.Read.remaining g.W.Write.contents c.in-Text.query p q c.args.out.now done.new.out end)
     (λ p q. AnswersText g.R.Reader.Read.remaining g.W.Write.contents c.in-Text.query p q c.args.out.now done.new.out end) c.args.input.now done.new.input in
     subst Ends (sym c.in-Text.is)
     (MatchResult-weaker done.result done.ensures (λ ending on. (subst (λ file. Answers file (end_of ending)) c.deref.ensures on, refl)) (λ _ kept. (kept.0, kept.1, refl)))
@@ -77,7 +86,8 @@ returns-in-Text g c =
 pub returns-in-Agent : goal.returns-in-Agent
 returns-in-Agent g c =
     let done = c.agent_on_files in
-    let Ends : Line → Type 0 = λ line. MatchResult done.result (λ ending. PerformsOn g.R.Reader.Read.remaining g.R.Tape.Read.remaining g.R.ReadFiles.was_done g.I.Read.remaining g.W.Write.contents line c.args.input.now done.new.input c.args.out.now
+    let Ends : Line → Type 0 = λ line. MatchResult done.result (λ ending. PerformsOn g.R.Reader.Read.remaining g.R.Tape.Read.remaining g.R.ReadFiles.was_done g.I.Read.remaining
+    g.W.Write.contents line c.args.input.now done.new.input c.args.out.now
     done.new.out (end_of ending) × ShowsOn g.E.Write.contents c.args.is_watched line c.args.err.now c.args.err.now)
     (λ _. (done.new.input ≡ c.args.input.now) × (done.new.out ≡ c.args.out.now) × (c.args.err.now ≡ c.args.err.now)) in
     subst Ends (sym c.in-Agent.is) (MatchResult-weaker done.result done.ensures (λ _ on. (on, refl)) (λ _ kept. (kept.0, kept.1, refl)))
@@ -85,7 +95,8 @@ returns-in-Agent g c =
 pub returns-in-Check : goal.returns-in-Check
 returns-in-Check g c =
     let done = c.check_on_files in
-    let Ends : Line → Type 0 = λ line. MatchResult done.result (λ ending. PerformsOn g.R.Reader.Read.remaining g.R.Tape.Read.remaining g.R.ReadFiles.was_done g.I.Read.remaining g.W.Write.contents line c.args.input.now c.args.input.now c.args.out.now
+    let Ends : Line → Type 0 = λ line. MatchResult done.result (λ ending. PerformsOn g.R.Reader.Read.remaining g.R.Tape.Read.remaining g.R.ReadFiles.was_done g.I.Read.remaining
+    g.W.Write.contents line c.args.input.now c.args.input.now c.args.out.now
     done.new.out (end_of ending) × ShowsOn g.E.Write.contents c.args.is_watched line c.args.err.now c.args.err.now)
     (λ _. (c.args.input.now ≡ c.args.input.now) × (done.new.out ≡ c.args.out.now) × (c.args.err.now ≡ c.args.err.now)) in
     subst Ends (sym c.in-Check.is) (MatchResult-weaker done.result done.ensures (λ _ on. ((on, refl), refl)) (λ _ kept. (refl, kept, refl)))
@@ -93,7 +104,8 @@ returns-in-Check g c =
 pub returns-in-Rows : goal.returns-in-Rows
 returns-in-Rows g c =
     let done = c.rows_on_files in
-    let Ends : Line → Type 0 = λ line. MatchResult done.result (λ ending. PerformsOn g.R.Reader.Read.remaining g.R.Tape.Read.remaining g.R.ReadFiles.was_done g.I.Read.remaining g.W.Write.contents line c.args.input.now c.args.input.now c.args.out.now
+    let Ends : Line → Type 0 = λ line. MatchResult done.result (λ ending. PerformsOn g.R.Reader.Read.remaining g.R.Tape.Read.remaining g.R.ReadFiles.was_done g.I.Read.remaining
+    g.W.Write.contents line c.args.input.now c.args.input.now c.args.out.now
     done.new.out (end_of ending) × ShowsOn g.E.Write.contents c.args.is_watched line c.args.err.now done.new.err)
     (λ _. (c.args.input.now ≡ c.args.input.now) × (done.new.out ≡ c.args.out.now) × (done.new.err ≡ c.args.err.now)) in
     subst Ends (sym c.in-Rows.is) (MatchResult-weaker done.result done.ensures (λ _ on. ((on.0, refl), on.1)) (λ _ kept. (refl, kept.0, kept.1)))
