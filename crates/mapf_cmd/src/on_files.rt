@@ -87,11 +87,7 @@ pub(crate) fn perform_on_files<R: AgentFiles + AllocGlobal, I: Read, W: Write, E
 }
 
 /// Opens a file to be read. Where that fails, the answer is what the file would be.
-fn open_file<R: ReadFiles>(
-    rt: &R,
-    path: &str,
-    origin: Origin,
-) -> Result<Counted<R::Reader>, Origin>
+fn open_file<R: ReadFiles>(rt: &R, path: &str, origin: Origin) -> Result<Counted<R::Reader>, Origin>
     ensures { IfOk result (IsJustOpened R.Reader.remaining R.was_done) }
 {
     match rt.open_input(path) {

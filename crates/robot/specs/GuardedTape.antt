@@ -106,11 +106,11 @@ pub guarded_is_write : {F G : Type 0} (position : F → Option ℕ)
     → IsWrite (guarded_state t) (guarded_state u) at bytes succeeds
 guarded_is_write position held contents IsSynced HasAllowed HasNoted t u at bytes succeeds may
     count h = elim h [
-  | inl made ↦ file_is_write position held contents IsSynced t.tape u.tape at bytes succeeds may
-      count made.writes
-  | inr failed ↦ elim failed [
-    | inl left ↦ unwritten_is_write t.tape u.tape at bytes succeeds may left
-    | inr stored ↦ unnoted_is_write position held contents IsSynced HasAllowed t u.tape at bytes
-        succeeds stored
-  ]
-]
+      | inl made ↦ file_is_write position held contents IsSynced t.tape u.tape at bytes succeeds may
+          count made.writes
+      | inr failed ↦ elim failed [
+        | inl left ↦ unwritten_is_write t.tape u.tape at bytes succeeds may left
+        | inr stored ↦ unnoted_is_write position held contents IsSynced HasAllowed t u.tape at bytes
+            succeeds stored
+      ]
+    ]

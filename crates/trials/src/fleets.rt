@@ -41,8 +41,7 @@ fn perform<R: AgentFiles + AllocGlobal>(
     tape: &str,
     out: &mut Out<'_>,
     err: &mut Out<'_>,
-) -> u8
-{
+) -> u8 {
     let (map, plan) = (&mut reader(LANE), &mut reader(ALONE));
     match command {
         Command::Agent => {
@@ -55,8 +54,7 @@ fn perform<R: AgentFiles + AllocGlobal>(
     }
 }
 
-fn end_of<R: AgentFiles + AllocGlobal>(rt: &R, command: Command, tape: &str, text: &str) -> End
-{
+fn end_of<R: AgentFiles + AllocGlobal>(rt: &R, command: Command, tape: &str, text: &str) -> End {
     let Ok(mut outputs) = Outputs::new(rt.alloc()) else {
         return End::Wanting;
     };
