@@ -1,51 +1,62 @@
 //! What is promised of the lines that the agents of a fleet read and wrote: laws, which hold of
 //! every transcript and need no code.
 ghost use Rattle.std.specs.Prelude.{◌≡◌, ℕ, ◌⊎◌, Bool, List, [], ◌∷◌, ◌++◌, length};
-ghost use Rattle.std.specs.Prelude.{Option, None, Some, MatchOption, Result, Ok, Err};
+ghost use Rattle.std.specs.Prelude.{Option, None, Some, MatchOption, Result, Err};
+ghost use Rattle.std.specs.Prelude.{◌≤◌, slice_get};
 ghost use Rattle.grid.specs.Map.{Grid};
 ghost use Rattle.text_io.specs.declared.counted.Counted.{Counted};
 ghost use Rattle.model.specs.Plan.{Plan, IsValid, IsTimetableOf};
-ghost use Rattle.model.specs.Timetable.{Timetable};
+ghost use Rattle.model.specs.Timetable.{Track, Timetable, track_of};
+ghost use Rattle.model.specs.Messages.{told};
 ghost use Rattle.plan_text.specs.Limits.{IsPlan};
 ghost use Rattle.agent.specs.Agents.{AgentOn, state_of};
 ghost use Rattle.agent.specs.Opening.{IsOpened};
-ghost use Rattle.agent.specs.States.{State};
+ghost use Rattle.agent.specs.States.{State, finished_moves};
 ghost use Rattle.agent.specs.Tape.{whole_records};
+ghost use Rattle.agent.specs.Tellings.{Telling, BytesTell};
 ghost use Rattle.continuing.specs.Continuing.{IsChain, last_plan};
+ghost use Rattle.fleet.specs.Ahead.{IsSafeAhead};
 ghost use Rattle.fleet.specs.Deeds.{Deed};
-ghost use Rattle.fleet.specs.Fleets.{Log, deeds_of, IsFleet};
+ghost use Rattle.fleet.specs.Fleets.{Log, deeds_of, spoken, IsFleet, IsTellable};
 ghost use Rattle.fleet.specs.FleetSafety.{IsFleetSafe};
 ghost use Rattle.fleet.specs.OwnPlans.{Doings, log_of, IsFleetBy, SharesMoves, IsOfChain};
 ghost use Rattle.robot.specs.Dialogue.{Leads, dialogue_lines};
 ghost use Rattle.robot.specs.declared.talk_fault.TalkFault.{TalkFault};
 ghost use Rattle.robot.specs.declared.talk_fault.TalkFault.TheVariants.{WriteFailed};
 ghost use Rattle.transcripts.specs.Processes.{Process, IsProcess};
-ghost use Rattle.transcripts.specs.Transcripts.{Transcript, IsTranscript, states_on};
+ghost use Rattle.transcripts.specs.Transcripts.{Transcript, WasSaidIn, IsTranscript, states_on};
 ghost use Rattle.transcripts.specs.Transcripts.{RunsBy, RunsByChain};
 
 use agent::{MemTape, Tape};
 use std::io::{Read, Write};
 
 /// What the processes of a fleet read and wrote tells what the fleet did: there is a fleet whose
-/// agents did these deeds, and whose tapes have these records. All laws of fleets apply to it.
+/// agents did these deeds and said these messages, and whose tapes have these records. All laws of
+/// fleets apply to it.
 pub fn transcripts_are_fleets()
     ensures one_plan { (tt : Timetable) (processes : ℕ → List Process) (transcript : Transcript)
         (deeds : ℕ → List Deed) (tapes : ℕ → ℕ)
         → IsTranscript (RunsBy tt) processes transcript deeds tapes
         → (log : Log) × (states : ℕ → State) × IsFleet tt log states
-        × ((i : ℕ) → deeds_of log i ≡ deeds i) × ((i : ℕ) → (states i).records ≡ tapes i) }
+        × ((i : ℕ) → deeds_of log i ≡ deeds i) × ((i : ℕ) → (states i).records ≡ tapes i)
+        × ((bytes : List ℕ) → WasSaidIn bytes transcript → (m : ℕ)
+        × (slice_get (spoken log) m ≡ Some bytes)) }
     ensures of_plans { (last : Timetable) (processes : ℕ → List Process) (transcript : Transcript)
         (deeds : ℕ → List Deed) (tapes : ℕ → ℕ)
         → IsTranscript (SharesMoves last) processes transcript deeds tapes
         → (doings : Doings) × (states : ℕ → State) × IsFleetBy (SharesMoves last) doings states
         × ((i : ℕ) → deeds_of (log_of doings) i ≡ deeds i)
-        × ((i : ℕ) → (states i).records ≡ tapes i) }
+        × ((i : ℕ) → (states i).records ≡ tapes i)
+        × ((bytes : List ℕ) → WasSaidIn bytes transcript → (m : ℕ)
+        × (slice_get (spoken (log_of doings)) m ≡ Some bytes)) }
     ensures of_chain { (plan : Plan) (plans : List Plan) (processes : ℕ → List Process)
         (transcript : Transcript) (deeds : ℕ → List Deed) (tapes : ℕ → ℕ)
         → IsTranscript (RunsByChain plan plans) processes transcript deeds tapes
         → (doings : Doings) × (states : ℕ → State) × IsFleetBy (IsOfChain plan plans) doings states
         × ((i : ℕ) → deeds_of (log_of doings) i ≡ deeds i)
-        × ((i : ℕ) → (states i).records ≡ tapes i) }
+        × ((i : ℕ) → (states i).records ≡ tapes i)
+        × ((bytes : List ℕ) → WasSaidIn bytes transcript → (m : ℕ)
+        × (slice_get (spoken (log_of doings)) m ≡ Some bytes)) }
 {
     fleet::laws::tapes_stay_within::<MemTape>();
 }
@@ -79,6 +90,40 @@ pub fn transcripts_are_safe()
     fleet::laws::every_fleet_is_safe();
     fleet::laws::changing_fleets_are_safe();
     fleet::laws::extending();
+}
+
+/// Drives may go ahead of their tapes, as far as `may` said that their way is free: no two are in
+/// one cell, wherever each is between what its tape has as finished and the furthest that was free.
+pub fn drives_ahead_are_safe()
+    ensures { (map : Grid) (plan : Plan) (tt : Timetable) (processes : ℕ → List Process)
+        (transcript : Transcript) (deeds : ℕ → List Deed) (tapes : ℕ → ℕ) → IsPlan plan
+        → IsValid map plan → IsTimetableOf plan tt
+        → IsTranscript (RunsBy tt) processes transcript deeds tapes
+        → (log : Log) × ((i : ℕ) → deeds_of log i ≡ deeds i)
+        × IsSafeAhead tt log (states_on tapes) }
+{
+    transcripts_are_fleets();
+    fleet::laws::ahead_of_tapes();
+}
+
+/// No line says that an agent has finished more moves than its tape has. So where one does, the tape
+/// at hand is an older one, or somebody forged the line.
+pub fn no_line_is_ahead()
+    ensures one_plan { (tt : Timetable) (processes : ℕ → List Process)
+        (transcript : Transcript) (deeds : ℕ → List Deed) (tapes : ℕ → ℕ) (i : ℕ) (track : Track)
+        (bytes : List ℕ) (t : Telling) → IsTellable tt
+        → IsTranscript (RunsBy tt) processes transcript deeds tapes
+        → track_of tt i ≡ Some track → WasSaidIn bytes transcript → BytesTell bytes t
+        → told t.message i ≤ finished_moves (states_on tapes i) }
+    ensures of_plans { (last : Timetable) (processes : ℕ → List Process)
+        (transcript : Transcript) (deeds : ℕ → List Deed) (tapes : ℕ → ℕ) (i : ℕ) (track : Track)
+        (bytes : List ℕ) (t : Telling) → IsTellable last
+        → IsTranscript (SharesMoves last) processes transcript deeds tapes
+        → track_of last i ≡ Some track → WasSaidIn bytes transcript → BytesTell bytes t
+        → told t.message i ≤ finished_moves (states_on tapes i) }
+{
+    transcripts_are_fleets();
+    fleet::laws::no_tape_is_behind();
 }
 
 /// Whatever dialogue the contract of `robot::talk` admits over a tape that was opened is a process

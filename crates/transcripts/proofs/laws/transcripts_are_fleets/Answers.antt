@@ -34,6 +34,7 @@ returns-clause-one_plan c table processes transcript deeds tapes is =
       by-one table did.doings _ (fits-as (FitsWithin (RunsBy table)) (RunsBy table) (λ by i track count there fits. fits.0) did.doings _ did.led),
       same-deeds stays (RunsBy table) processes transcript deeds tapes is,
       λ i. (shown stays (RunsBy table) processes transcript deeds tapes is i).is_new,
+      did.said,
     )
 
 pub returns-clause-of_plans : goal.returns-clause-of_plans
@@ -45,6 +46,7 @@ returns-clause-of_plans c last processes transcript deeds tapes is =
       fits-as (FitsWithin (SharesMoves last)) (SharesMoves last) (λ by i track count there fits. fits.0) did.doings _ did.led,
       same-deeds stays (SharesMoves last) processes transcript deeds tapes is,
       λ i. (shown stays (SharesMoves last) processes transcript deeds tapes is i).is_new,
+      did.said,
     )
 
 pub returns-clause-of_chain : goal.returns-clause-of_chain
@@ -57,4 +59,5 @@ returns-clause-of_chain c plan plans processes transcript deeds tapes is =
       (λ by i track count there fits. record { has = fits.1; own = fits.0.0; among = fits.0.1; is_its = fits.0.2 }) did.doings _ did.led,
       same-deeds stays (RunsByChain plan plans) processes transcript deeds tapes is,
       λ i. (shown stays (RunsByChain plan plans) processes transcript deeds tapes is i).is_new,
+      did.said,
     )

@@ -1,0 +1,18 @@
+use Rattle.std.proofs.Common.{◌≤◌, ◌/◌, ap, subst}
+use Rattle.model.specs.Messages.{told}
+use Rattle.fleet.specs.OwnPlans.{log_of}
+use Rattle.transcripts.proofs.laws.no_line_is_ahead.Goals as goal
+
+pub returns-clause-one_plan : goal.returns-clause-one_plan
+returns-clause-one_plan c table processes transcript deeds tapes i track bytes t tellable is there said telling =
+    let fleet = c.transcripts_are_fleets.ensures.one_plan table processes transcript deeds tapes is in
+    let at = fleet.5 bytes said in
+    let least = c.no_tape_is_behind.ensures.fleet table fleet.0 fleet.1 i track at.0 bytes t tellable fleet.2 there at.1 telling in
+    subst (λ n. told t.message i ≤ n / 2) (fleet.4 i) least
+
+pub returns-clause-of_plans : goal.returns-clause-of_plans
+returns-clause-of_plans c last processes transcript deeds tapes i track bytes t tellable is there said telling =
+    let fleet = c.transcripts_are_fleets.ensures.of_plans last processes transcript deeds tapes is in
+    let at = fleet.5 bytes said in
+    let least = c.no_tape_is_behind.ensures.of_plans last fleet.0 fleet.1 i track at.0 bytes t tellable fleet.2 there at.1 telling in
+    subst (λ n. told t.message i ≤ n / 2) (fleet.4 i) least
