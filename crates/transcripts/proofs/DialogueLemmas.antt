@@ -1,18 +1,18 @@
 -- Dialogues as processes, and processes that end sooner.
-use Rattle.std.proofs.Common.{◌≡◌, ℕ, zero, suc, ◌+◌, ◌*◌, ◌≤◌, Bool, true, List, [], ◌∷◌, ◌++◌, length, drop, get_or, Some, None, Result, Ok, Err, inl, inr, refl, sym, ap, subst, ◌∙◌, arith, append_assoc, append-nil}
+use Rattle.std.proofs.Common.{◌≡◌, ℕ, zero, suc, ◌+◌, ◌*◌, ◌≤◌, Bool, true, List, [], ◌∷◌, ◌++◌, length, Some, None, Result, Ok, Err, inl, inr, refl, sym, ap, subst, ◌∙◌, arith, append_assoc, append-nil}
 use Rattle.std.specs.Prelude.{Option, ◌⊎◌}
 use Rattle.grid.specs.declared.cell.Cell.{Cell}
 use Rattle.model.specs.Timetable.{Track, Timetable, moves, track_of}
 use Rattle.agent.specs.States.{State, finished_moves, held_by_tape, start_refusal, finish_refusal, next_cell, Answers}
 use Rattle.agent.specs.declared.refusal.Refusal.{Refusal}
 use Rattle.agent.specs.declared.refusal.Refusal.TheVariants.{StoreFailed}
-use Rattle.fleet.specs.Deeds.{Deed, opens, starts, finishes, says, tells, hears, holds, looks, ends, stops, ends_starting, ends_finishing, Does, DoesAll}
-use Rattle.robot.specs.Dialogue.{IsAnswerTo, AreAnswersTo, IsStaleAnswer, EndStale, AreAnsweredSo}
+use Rattle.fleet.specs.Deeds.{Deed, opens, starts, finishes, says, tells, hears, holds, looks, ends, ends_starting, ends_finishing, Does, DoesAll}
+use Rattle.robot.specs.Dialogue.{AreAnswersTo, IsStaleAnswer, EndStale, AreAnsweredSo}
 use Rattle.robot.specs.Requests.{Request, start, finish, say, tell, held, may, hear, AsksFor}
-use Rattle.robot.specs.Turns.{state_line, deed_line, IsCallOf}
+use Rattle.robot.specs.Turns.{state_line, IsCallOf}
 use Rattle.robot.specs.declared.talk_fault.TalkFault.{TalkFault}
 use Rattle.robot.specs.declared.talk_fault.TalkFault.TheVariants as talk_fault
-use Rattle.transcripts.specs.Processes.{Process, on_tape, EndsWhile, IsAnsweredSo, AreAllAnsweredSo, IsLedProcess, IsProcess}
+use Rattle.transcripts.specs.Processes.{on_tape, EndsWhile, IsAnsweredSo, AreAllAnsweredSo, IsProcess}
 use Rattle.transcripts.proofs.Growing.{same-records, heard-records}
 
 -- ---- dialogues
@@ -25,8 +25,7 @@ module _ (by : Timetable) (i : ℕ) (track : Track) where
   answers-all (line ∷ lines) [] old new deeds are does = absurd are
   answers-all (line ∷ lines) (text ∷ texts) old new deeds (rest, answer, ending, are) does = elim answer [
     | inl (request, deed, asks, call, is, same) ↦ (
-        let all : DoesAll by i track old (deed ∷ rest) new = subst (λ l. DoesAll by i track old l new) same does in
-        (
+        let all : DoesAll by i track old (deed ∷ rest) new = subst (λ l. DoesAll by i track old l new) same does in (
           all.0,
           deed ∷ [],
           rest,

@@ -1,30 +1,27 @@
 -- What is seen of all agents, in one order in time, as what their fleet did.
-use Rattle.std.proofs.Common.{◌≡◌, ◌≢◌, ℕ, zero, suc, ◌+◌, ◌≤◌, eqb, List, [], ◌∷◌, ◌++◌, Some, None, Result, Ok, Err, inl, inr, refl, sym, ap, subst, ◌∙◌, arith, append_assoc, append-nil}
+use Rattle.std.proofs.Common.{◌≡◌, ◌≢◌, ℕ, zero, suc, ◌≤◌, eqb, List, [], ◌∷◌, ◌++◌, Some, Ok, Err, inl, inr, refl, sym, ap, subst, ◌∙◌, append_assoc, append-nil}
 use Rattle.std.specs.List.{AllByRecursion}
-use Rattle.std.specs.Prelude.{map, Option, slice_get, length, ◌⊎◌, if◌then◌else◌, ◌==◌}
+use Rattle.std.specs.Prelude.{map, slice_get, length, if◌then◌else◌, ◌==◌}
 use Rattle.std.proofs.Math.Path.{fun_ext}
 use Rattle.std.proofs.lemmas.Bool.{cases_eq, cond-true, cond-false, eq-eqb, ne_eqb}
 use Rattle.std.proofs.lemmas.Option.{same_Some, none-some}
 use Rattle.agent.specs.States.{State, begun_moves}
-use Rattle.agent.specs.declared.refusal.HearFault.{HearFault}
 use Rattle.fleet.specs.Deeds.{Deed, opens, starts, finishes, says, tells, hears, holds, looks, ends, stops, ends_starting, ends_finishing, Does, DoesAll}
-use Rattle.fleet.specs.Fleets.{Logged, Log, deeds_of, fresh, bytes_of, spoken, IsHonest, AreAll, IsFleet, with_state}
-use Rattle.fleet.specs.OwnPlans.{DoneBy, Doings, logged, log_of, IsLedOn, AreLedOn, IsFleetBy}
+use Rattle.fleet.specs.Fleets.{Logged, Log, deeds_of, fresh, bytes_of, spoken, IsHonest, IsFleet}
+use Rattle.fleet.specs.OwnPlans.{DoneBy, Doings, logged, log_of, IsFleetBy}
 use Rattle.fleet.specs.Laws.Leading.{leads-more}
 use Rattle.model.specs.Timetable.{Track, Timetable, moves, track_of}
-use Rattle.robot.specs.Requests.{Request}
-use Rattle.robot.specs.Turns.{deed_line}
 use Rattle.transcripts.specs.Transcripts.{Seen, state_told, line_answered, SeenOf, Transcript, seen_of, IsSaidLine, SaysIn, WasSaidIn, IsHeardLine, IsPassedOn, AreAllPassedOn, RunsBy}
-use Rattle.transcripts.proofs.Spelling.{IsPlain, says-them, heard-them, heard-line}
+use Rattle.transcripts.proofs.Spelling.{says-them, heard-them, heard-line}
 use Rattle.transcripts.proofs.Stepping.{Did, deed_of, IsSilent, TellsOf, Tells, IsPlainDid, IsStep, AreSteps, AreSeen, SeenLast, seen-last}
 use Rattle.transcripts.proofs.ProcessLemmas.{map-both}
 
 -- ---- what is seen of one
 
-seen-own : (now : SeenOf) (transcript : Transcript) (i : ℕ) → now.agent ≡ i → seen_of (now ∷ transcript) i ≡ seen_of transcript i ++ now.seen ∷ []
+pub seen-own : (now : SeenOf) (transcript : Transcript) (i : ℕ) → now.agent ≡ i → seen_of (now ∷ transcript) i ≡ seen_of transcript i ++ now.seen ∷ []
 seen-own now transcript i own = cond-true (eqb now.agent i) _ _ (eq-eqb now.agent i own)
 
-seen-other : (now : SeenOf) (transcript : Transcript) (i : ℕ) → (now.agent ≡ i → ⊥) → seen_of (now ∷ transcript) i ≡ seen_of transcript i
+pub seen-other : (now : SeenOf) (transcript : Transcript) (i : ℕ) → (now.agent ≡ i → ⊥) → seen_of (now ∷ transcript) i ≡ seen_of transcript i
 seen-other now transcript i other = cond-false (eqb now.agent i) _ _ (ne_eqb now.agent i other)
 
 own-deeds : (now : Logged) (log : Log) (i : ℕ) → now.agent ≡ i → deeds_of (now ∷ log) i ≡ deeds_of log i ++ now.deed ∷ []

@@ -1,5 +1,5 @@
 -- What a deed leaves on its agent's tape: what it had, or for a start or a finish one record more.
-use Rattle.std.proofs.Common.{◌≡◌, ℕ, ◌+◌, ◌*◌, ◌≤◌, List, [], ◌∷◌, Some, None, Result, Ok, Err, inl, inr, sym, ap, arith}
+use Rattle.std.proofs.Common.{◌≡◌, ℕ, ◌+◌, ◌*◌, ◌≤◌, List, [], ◌∷◌, Some, None, Result, Ok, Err, inl, inr, ap, arith}
 use Rattle.std.specs.Prelude.{Option, MatchOption, ◌⊎◌}
 use Rattle.grid.specs.declared.cell.Cell.{Cell}
 use Rattle.model.specs.Timetable.{Track, Timetable, moves}

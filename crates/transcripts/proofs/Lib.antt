@@ -12,3 +12,5 @@ pub mod ProcessLemmas
 pub mod FleetLemmas
 -- dialogues as processes, and processes that end sooner
 pub mod DialogueLemmas
+-- what was seen up to a moment
+pub mod MomentLemmas

@@ -1,15 +1,13 @@
 -- What processes did, as steps.
-use Rattle.std.proofs.Common.{◌≡◌, ℕ, ◌+◌, ◌*◌, ◌/◌, ◌%◌, ◌≤◌, List, [], ◌∷◌, ◌++◌, Some, None, Result, Ok, Err, inl, inr, refl, sym, ap, subst, ◌∙◌, arith, append_assoc, append-nil}
-use Rattle.std.specs.Prelude.{map, true, false, ◌==◌, ◌⊎◌, if◌then◌else◌, Option}
+use Rattle.std.proofs.Common.{◌≡◌, ℕ, ◌+◌, ◌*◌, ◌/◌, ◌%◌, ◌≤◌, List, [], ◌∷◌, ◌++◌, Some, None, inl, inr, refl, sym, ap, subst, ◌∙◌, arith}
+use Rattle.std.specs.Prelude.{map, ◌==◌, ◌⊎◌, if◌then◌else◌, Option}
 use Rattle.std.specs.List.{flat_map}
-use Rattle.grid.specs.declared.cell.Cell.{Cell}
 use Rattle.model.specs.declared.held.Held.{Held}
 use Rattle.model.specs.declared.held.Held.TheVariants.{At, Between}
 use Rattle.model.specs.Rules.{path_cell}
 use Rattle.model.specs.Timetable.{Track, Timetable, moves, track_of}
 use Rattle.agent.specs.States.{State, begun_moves, finished_moves, held_by_tape}
-use Rattle.fleet.specs.Deeds.{Deed, opens, ends, ends_starting, ends_finishing, Does, DoesAll}
-use Rattle.robot.specs.Dialogue.{IsAnswerTo, IsStaleAnswer}
+use Rattle.fleet.specs.Deeds.{Deed, opens, Does, DoesAll}
 use Rattle.transcripts.specs.Processes.{Process, on_tape, EndsWhile, IsAnsweredSo, AreAllAnsweredSo, IsLedProcess, IsProcessWith, IsProcess, FitsProcess, AreProcesses}
 use Rattle.transcripts.specs.Transcripts.{Seen, state_told, line_answered, turns_seen, seen_with, seen_in, IsSaidLine}
 use Rattle.transcripts.proofs.Growing.{grows, grows-all, StayWithin}
@@ -41,20 +39,21 @@ plain-end (Some line) deed (inr (inr is)) = subst IsPlain (sym is.1) (record { s
 -- ---- tapes
 
 -- what is answered leaves the tape within its plan
-stays-all : StayWithin → (by : Timetable) (i : ℕ) (track : Track) (old new : State) (deeds : List Deed) → old.records ≤ 2 * moves track → DoesAll by i track old deeds new → new.records ≤ 2 * moves track
+stays-all : StayWithin → (by : Timetable) (i : ℕ) (track : Track) (old new : State) (deeds : List Deed) → old.records ≤ 2 * moves track → DoesAll by i track old deeds new
+    → new.records ≤ 2 * moves track
 stays-all stays by i track old new [] within does = subst (λ s. s.records ≤ 2 * moves track) (sym does) within
 stays-all stays by i track old new (deed ∷ deeds) within (mid, first, rest) = stays-all stays by i track mid new deeds (stays by i track old deed mid within first) rest
 
-answered-within : StayWithin → (by : Timetable) (i : ℕ) (track : Track) (old new : State) (line text : List ℕ) (own : List Deed) → old.records ≤ 2 * moves track → IsAnsweredSo by i track old line text own new
-    → new.records ≤ 2 * moves track
+answered-within : StayWithin → (by : Timetable) (i : ℕ) (track : Track) (old new : State) (line text : List ℕ) (own : List Deed) → old.records ≤ 2 * moves track
+    → IsAnsweredSo by i track old line text own new → new.records ≤ 2 * moves track
 answered-within stays by i track old new line text own within (inl (answer, does)) = stays-all stays by i track old new own within does
 answered-within stays by i track old new line text own within (inr (stale, none, same)) = subst (λ s. s.records ≤ 2 * moves track) (sym same) within
 
-answer-grows : (by : Timetable) (i : ℕ) (track : Track) (old new : State) (line text : List ℕ) (own : List Deed) → IsAnsweredSo by i track old line text own new → old.records ≤ new.records
+pub answer-grows : (by : Timetable) (i : ℕ) (track : Track) (old new : State) (line text : List ℕ) (own : List Deed) → IsAnsweredSo by i track old line text own new → old.records ≤ new.records
 answer-grows by i track old new line text own (inl (answer, does)) = grows-all by i track old new own does
 answer-grows by i track old new line text own (inr (stale, none, same)) = (let e = ap (λ s. s.records) same in omega (arith, e))
 
-answers-grow : (by : Timetable) (i : ℕ) (track : Track) (old new : State) (lines answers : List (List ℕ)) (done : List Deed) → AreAllAnsweredSo by i track old lines answers done new
+pub answers-grow : (by : Timetable) (i : ℕ) (track : Track) (old new : State) (lines answers : List (List ℕ)) (done : List Deed) → AreAllAnsweredSo by i track old lines answers done new
     → old.records ≤ new.records
 answers-grow by i track old new [] [] done (none, same) = (let e = ap (λ s. s.records) same in omega (arith, e))
 answers-grow by i track old new [] (text ∷ answers) done never = absurd never

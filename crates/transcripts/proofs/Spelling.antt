@@ -1,21 +1,16 @@
 -- What the lines of answers say of the messages that were said and heard.
-use Rattle.std.proofs.Common.{◌≡◌, ℕ, zero, suc, ◌+◌, ◌/◌, ◌%◌, ◌<◌, List, [], ◌∷◌, ◌++◌, length, get_or, drop, lit<, Some, None, Result, Ok, Err, refl, sym, ap, ◌∙◌, subst, arith}
-use Rattle.std.specs.Prelude.{codes, slice_index}
+use Rattle.std.proofs.Common.{◌≡◌, ℕ, zero, suc, ◌/◌, ◌%◌, ◌<◌, List, [], ◌∷◌, ◌++◌, length, get_or, drop, lit<, Ok, Err, refl, sym, ap, ◌∙◌, subst, arith}
+use Rattle.std.specs.Prelude.{codes}
 use Rattle.std.specs.List.{flat_map}
 use Rattle.hex.specs.Hex.{IsBytes, encode_lower, decode_of}
 use Rattle.hex.proofs.HexLemmas.{decode_of-encode_lower}
-use Rattle.grid.specs.declared.cell.Cell.{Cell}
 use Rattle.model.specs.declared.entry.Entry.{Entry}
-use Rattle.model.specs.declared.held.Held.{Held}
 use Rattle.model.specs.declared.held.Held.TheVariants.{At, Between}
 use Rattle.model.specs.declared.msg_fault.MsgFault.TheVariants.{BadLength, BadMagic, BadVersion, BadEntry}
 use Rattle.model.specs.Messages.{Message, big_endian, message_bytes, entry_bytes, told_bytes}
 use Rattle.model.specs.Timetable.{Track, Timetable}
 use Rattle.agent.specs.States.{State}
-use Rattle.agent.specs.declared.refusal.HearFault.{HearFault}
 use Rattle.agent.specs.declared.refusal.HearFault.TheVariants as fault
-use Rattle.agent.specs.declared.refusal.Refusal.{Refusal}
-use Rattle.agent.specs.declared.refusal.TellFault.{TellFault}
 use Rattle.agent.specs.declared.refusal.TellFault.TheVariants as tell_fault
 use Rattle.fleet.specs.Deeds.{Deed, opens, starts, finishes, says, tells, hears, holds, looks, ends, stops, ends_starting, ends_finishing, Does}
 use Rattle.fleet.specs.Fleets.{bytes_of, IsHonest}

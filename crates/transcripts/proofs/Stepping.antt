@@ -1,12 +1,12 @@
 -- What is seen of an agent as steps.
-use Rattle.std.proofs.Common.{◌≡◌, ℕ, ◌+◌, ◌*◌, ◌/◌, ◌≤◌, List, [], ◌∷◌, ◌++◌, Some, None, Result, Ok, Err, inl, inr, refl, sym, ap, subst, ◌∙◌, arith, append_assoc, append-nil}
+use Rattle.std.proofs.Common.{◌≡◌, ℕ, ◌≤◌, List, [], ◌∷◌, ◌++◌, Some, refl, sym, ap, subst, ◌∙◌, append_assoc, append-nil}
 use Rattle.std.specs.List.{AllByRecursion}
 use Rattle.model.specs.Timetable.{Track, Timetable, moves, track_of}
 use Rattle.agent.specs.States.{State, begun_moves}
-use Rattle.fleet.specs.Deeds.{Deed, Does, DoesAll}
+use Rattle.fleet.specs.Deeds.{Deed, Does}
 use Rattle.robot.specs.Requests.{Request, AsksFor}
 use Rattle.robot.specs.Turns.{deed_line, IsCallOf}
-use Rattle.transcripts.specs.Transcripts.{Seen, state_told, line_answered, IsSaidLine}
+use Rattle.transcripts.specs.Transcripts.{Seen, line_answered, IsSaidLine}
 use Rattle.transcripts.proofs.Spelling.{IsPlain}
 
 -- a deed, and the timetable by which its process ran

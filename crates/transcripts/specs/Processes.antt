@@ -1,5 +1,5 @@
--- What one process of an agent did, as its lines tell it. A process may end at any moment: what it
--- wrote counts whether anybody read it or not.
+-- What one process of an agent did, as its lines tell it. A process may end at any moment. What it
+-- wrote counts, whether anybody read it or not.
 use Rattle.std.specs.Prelude.{◌≡◌, ℕ, ◌*◌, ◌≤◌, ◌⊎◌, true, false, List, [], ◌∷◌, ◌++◌}
 use Rattle.std.specs.Prelude.{Option, None, Some}
 use Rattle.model.specs.Timetable.{Track, Timetable, moves, track_of}
@@ -16,23 +16,28 @@ pub record Process : Type 0 where
   pub lines : List (List ℕ)
   -- the lines that it wrote whole: that of its state, and then an answer to each of those
   pub texts : List (List ℕ)
-  -- the line, if any, whose answer it had begun when it ended, and had not written whole
+  -- the line, if any, that it had begun to answer when it ended, with no answer written whole
   pub begun : Option (List ℕ)
 
--- a tape with so many records, of which nothing but its records is known: it was just opened
+-- one that ran by this timetable
+abbrev pub process_of : Timetable → (lines texts : List (List ℕ)) → Option (List ℕ) → Process
+process_of by lines texts begun =
+    record { by = by; lines = lines; texts = texts; begun = begun }
+
+-- the state of an agent that has just opened a tape with so many records
 abbrev pub on_tape : ℕ → State
 on_tape n = record { records = n; heard = []; broken = false }
 
--- How a process ended that had begun this line. A start or a finish that isn't refused may have
--- stored its record or not; whatever else it was doing leaves nothing.
+-- How a process ends that has begun to answer this line, or none. A start or a finish that isn't
+-- refused may have stored its record or not. Whatever else the process was doing leaves nothing.
 abbrev pub EndsWhile : Option (List ℕ) → Deed → Type 0
 EndsWhile None deed = deed ≡ ends
 EndsWhile (Some line) deed =
     (deed ≡ ends) ⊎ (AsksFor start line × (deed ≡ ends_starting))
     ⊎ (AsksFor finish line × (deed ≡ ends_finishing))
 
--- A line is answered by the deed that it asks for, or by none where it isn't understood; or it is a
--- message that shows the tape to be an older one, and the answer says so.
+-- The line is answered by the deed that it asks for, or by none where it isn't understood. Or it is
+-- a message that shows the tape to be an older one, and the answer says so.
 abbrev pub IsAnsweredSo : Timetable → ℕ → Track → State → List ℕ → List ℕ → List Deed → State
     → Type 0
 IsAnsweredSo by i track old line text deeds new =
@@ -49,9 +54,9 @@ AreAllAnsweredSo by i track old (line ∷ lines) (text ∷ texts) deeds new =
     × AreAllAnsweredSo by i track mid lines texts rest new × (deeds ≡ own ++ rest)
 AreAllAnsweredSo by i track old _ _ deeds new = ⊥
 
--- The process opened the agent's tape, which had so many records, wrote the line of its state, and
--- answered its lines by these deeds. It ended, at a request or between two, and the tape has so many
--- records since.
+-- The process opened the agent's tape, which had so many records. It wrote the line of its state,
+-- and answered its lines by these deeds. It ended at a request or between two, and left so many
+-- records on the tape.
 pub record IsLedProcess (i old : ℕ) (process : Process) (first : List ℕ) (answers : List (List ℕ))
     (deeds : List Deed) (new : ℕ) : Type 0 where
   pub track : Track
@@ -60,7 +65,8 @@ pub record IsLedProcess (i old : ℕ) (process : Process) (first : List ℕ) (an
   pub is_first : first ≡ state_line track (on_tape old)
   pub done : List Deed
   pub last : State
-  pub are_answered : AreAllAnsweredSo process.by i track (on_tape old) process.lines answers done last
+  pub are_answered
+      : AreAllAnsweredSo process.by i track (on_tape old) process.lines answers done last
   pub ending : Deed
   pub is_ending : EndsWhile process.begun ending
   pub end : State
@@ -70,7 +76,7 @@ pub record IsLedProcess (i old : ℕ) (process : Process) (first : List ℕ) (an
       : deeds ≡ opens (held_by_tape track (on_tape old)) (finished_moves (on_tape old)) ∷ done
       ++ ending ∷ []
 
--- By the lines that were written whole: where there is none, no line was read, and the tape is as
+-- The same by the lines that it wrote whole. If there is none, it read no line, and the tape is as
 -- it was.
 abbrev pub IsProcessWith
     : ℕ → (old : ℕ) → Process → List (List ℕ) → List Deed → (new : ℕ) → Type 0
@@ -78,12 +84,12 @@ IsProcessWith i old process [] deeds new = (process.lines ≡ []) × (deeds ≡ 
 IsProcessWith i old process (first ∷ answers) deeds new =
     IsLedProcess i old process first answers deeds new
 
--- a process of the agent did this, on a tape that had so many records before, and has so many since
+-- a process of the agent did these deeds, over a tape with so many records, and left so many
 abbrev pub IsProcess : ℕ → (old : ℕ) → Process → List Deed → (new : ℕ) → Type 0
 IsProcess i old process deeds new = IsProcessWith i old process process.texts deeds new
 
--- Where it wrote anything, its timetable fits whose it is, its track, and each number of moves up to
--- those that the tape has as begun since.
+-- If it wrote a line, its timetable fits each number of moves up to those that the tape had as
+-- begun when it ended.
 abbrev pub FitsProcess : (Timetable → ℕ → Track → ℕ → Type 0) → ℕ → Process → ℕ → Type 0
 FitsProcess Fits i process new =
     (process.texts ≡ [])

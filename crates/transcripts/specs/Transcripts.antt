@@ -1,6 +1,6 @@
 -- What a fleet's processes read and wrote, in one order in time.
 use Rattle.std.specs.Prelude.{◌≡◌, ℕ, ◌==◌, ◌⊎◌, if◌then◌else◌, List, [], ◌∷◌, ◌++◌}
-use Rattle.std.specs.Prelude.{codes, Result, Ok}
+use Rattle.std.specs.Prelude.{codes, Ok}
 use Rattle.std.specs.List.{flat_map}
 use Rattle.hex.specs.Hex.{decode_of}
 use Rattle.model.specs.Plan.{Plan, IsTimetableOf}
@@ -46,7 +46,7 @@ seen_of [] i = []
 seen_of (now ∷ transcript) i =
     if now.agent == i then seen_of transcript i ++ now.seen ∷ [] else seen_of transcript i
 
--- ---- messages, as their lines spell them
+-- ---- messages, as lines spell them
 
 -- the text says these bytes, by two hexadecimal digits each
 abbrev pub IsSaidLine : List ℕ → List ℕ → Type 0
@@ -66,8 +66,7 @@ WasSaidIn bytes (now ∷ transcript) = SaysIn bytes now.seen ⊎ WasSaidIn bytes
 abbrev pub IsHeardLine : List ℕ → Type 0
 IsHeardLine text = (rest : List ℕ) × (text ≡ codes "heard " ++ rest)
 
--- A message that was heard was said before, once, often or never; what was refused may come from
--- anywhere.
+-- A message that was heard had been said before. What was refused may come from anywhere.
 abbrev pub IsPassedOn : Transcript → Seen → Type 0
 IsPassedOn before (line_answered line text) =
     (bytes : List ℕ) → AsksFor (hear bytes) line → IsHeardLine text → WasSaidIn bytes before
@@ -79,10 +78,10 @@ AreAllPassedOn (now ∷ transcript) = IsPassedOn transcript now.seen × AreAllPa
 
 -- ---- the fleet
 
--- The processes of each agent, one after another over a tape that was empty at first, did these
--- deeds, and left so many records on it. The transcript has what they answered in some order in
--- time, in which each message that was heard had been said before. A process that still runs counts
--- as one that ended just now.
+-- The processes of each agent did these deeds, one process after another over a tape that was empty
+-- at first, and left so many records on it. The transcript has the lines that they wrote whole, in
+-- some order in time that respects each process. In that order each message that was heard had been
+-- said before. A process that still runs counts as one that ended just now.
 pub record IsTranscript (Fits : Timetable → ℕ → Track → ℕ → Type 0)
     (processes : ℕ → List Process) (transcript : Transcript) (deeds : ℕ → List Deed)
     (tapes : ℕ → ℕ) : Type 0 where

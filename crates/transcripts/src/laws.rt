@@ -20,17 +20,17 @@ ghost use Rattle.fleet.specs.Deeds.{Deed};
 ghost use Rattle.fleet.specs.Fleets.{Log, deeds_of, spoken, IsFleet, IsTellable};
 ghost use Rattle.fleet.specs.FleetSafety.{IsFleetSafe};
 ghost use Rattle.fleet.specs.OwnPlans.{Doings, log_of, IsFleetBy, SharesMoves, IsOfChain};
-ghost use Rattle.robot.specs.Dialogue.{Leads, dialogue_lines};
+ghost use Rattle.robot.specs.Dialogue.{Leads, Talks, dialogue_lines};
 ghost use Rattle.robot.specs.declared.talk_fault.TalkFault.{TalkFault};
-ghost use Rattle.robot.specs.declared.talk_fault.TalkFault.TheVariants.{WriteFailed};
-ghost use Rattle.transcripts.specs.Processes.{Process, IsProcess};
+ghost use Rattle.robot.specs.declared.talk_fault.TalkFault.TheVariants.{WriteFailed, OutOfMemory};
+ghost use Rattle.transcripts.specs.Processes.{Process, process_of, IsProcess};
 ghost use Rattle.transcripts.specs.Transcripts.{Transcript, WasSaidIn, IsTranscript, states_on};
 ghost use Rattle.transcripts.specs.Transcripts.{RunsBy, RunsByChain};
 
 use agent::{MemTape, Tape};
 use std::io::{Read, Write};
 
-/// What the processes of a fleet read and wrote tells what the fleet did: there is a fleet whose
+/// What the processes of a fleet read and wrote tells what the fleet did. There is a fleet whose
 /// agents did these deeds and said these messages, and whose tapes have these records. All laws of
 /// fleets apply to it.
 pub fn transcripts_are_fleets()
@@ -61,10 +61,9 @@ pub fn transcripts_are_fleets()
     fleet::laws::tapes_stay_within::<MemTape>();
 }
 
-/// So a fleet is safe by what its processes read and wrote, at whichever moments they were killed:
-/// where all ran by one plan that the checker accepts, where the fleet went over to a last plan, and
-/// where each process ran by some plan of a chain. It is safe at each moment of a transcript, since
-/// all that was seen up to that moment is a transcript too.
+/// So a fleet is safe by what its processes read and wrote, at whichever moments they were killed.
+/// All of them ran by one plan that the checker accepts, or the fleet went over to a last one, or
+/// each process ran by some plan of a chain.
 pub fn transcripts_are_safe()
     ensures one_plan { (map : Grid) (plan : Plan) (tt : Timetable)
         (processes : ℕ → List Process) (transcript : Transcript) (deeds : ℕ → List Deed)
@@ -92,8 +91,9 @@ pub fn transcripts_are_safe()
     fleet::laws::extending();
 }
 
-/// Drives may go ahead of their tapes, as far as `may` said that their way is free: no two are in
-/// one cell, wherever each is between what its tape has as finished and the furthest that was free.
+/// Drives may go ahead of their tapes, as far as an answer to `may` said that their way is free. No
+/// two are in one cell, wherever each is between what its tape has as finished and the furthest
+/// that was free.
 pub fn drives_ahead_are_safe()
     ensures { (map : Grid) (plan : Plan) (tt : Timetable) (processes : ℕ → List Process)
         (transcript : Transcript) (deeds : ℕ → List Deed) (tapes : ℕ → ℕ) → IsPlan plan
@@ -106,8 +106,8 @@ pub fn drives_ahead_are_safe()
     fleet::laws::ahead_of_tapes();
 }
 
-/// No line says that an agent has finished more moves than its tape has. So where one does, the tape
-/// at hand is an older one, or somebody forged the line.
+/// No line says that an agent has finished more moves than its tape has. Where a line says so, the
+/// tape at hand is an older one, or somebody forged the line.
 pub fn no_line_is_ahead()
     ensures one_plan { (tt : Timetable) (processes : ℕ → List Process)
         (transcript : Transcript) (deeds : ℕ → List Deed) (tapes : ℕ → ℕ) (i : ℕ) (track : Track)
@@ -126,61 +126,80 @@ pub fn no_line_is_ahead()
     fleet::laws::no_tape_is_behind();
 }
 
-/// Whatever dialogue the contract of `robot::talk` admits over a tape that was opened is a process
-/// of its agent, with the lines that this contract says were read and written. Where the writer
-/// failed, the last line counts as one that was not written whole, unless it was.
+/// Each dialogue that the contract of `robot::talk` admits, over a tape that was opened, is a
+/// process of its agent. Its lines are those that the contract says were read and written. Where
+/// the writer failed, the last line may not have been written whole: without it there is a process
+/// too. Where memory was refused, there is a process that wrote nothing.
 pub fn dialogues_are_processes<R: Read, W: Write, T: Tape>()
     ensures whole { (heeds : Bool) (tt : Timetable) (i : ℕ) (tape : T) (old new : AgentOn T)
         (old_in new_in : Counted R) (old_out new_out : Counted W) (result : Result Unit TalkFault)
         (led : Leads R.remaining W.contents T.state heeds tt old_in new_in old_out new_out old new
         result) → IsOpened T.state T.may_read tt i tape old
         → (deeds : List Deed)
-        × IsProcess i (whole_records (T.state tape)) (record {
-            by = tt;
-            lines = led.lines;
-            texts = dialogue_lines led.track (state_of T.state old) led.texts;
-            begun = None;
-        }) deeds (whole_records (T.state new.tape)) }
+        × IsProcess i (whole_records (T.state tape)) (process_of tt led.lines
+        (dialogue_lines led.track (state_of T.state old) led.texts) None) deeds
+        (whole_records (T.state new.tape)) }
+    ensures wrote_nothing { (heeds : Bool) (tt : Timetable) (i : ℕ) (tape : T) (old new : AgentOn T)
+        (old_in new_in : Counted R) (old_out new_out : Counted W)
+        → IsOpened T.state T.may_read tt i tape old
+        → Talks R.remaining W.contents T.state heeds tt old_in new_in old_out new_out old new
+        (Err OutOfMemory)
+        → IsProcess i (whole_records (T.state tape)) (process_of tt [] [] None) []
+        (whole_records (T.state new.tape)) }
     ensures broken_off { (heeds : Bool) (tt : Timetable) (i : ℕ) (tape : T) (old new : AgentOn T)
         (old_in new_in : Counted R) (old_out new_out : Counted W)
         (led : Leads R.remaining W.contents T.state heeds tt old_in new_in old_out new_out old new
         (Err WriteFailed)) → IsOpened T.state T.may_read tt i tape old
         → (lines : List (List ℕ)) × (begun : Option (List ℕ)) × (deeds : List Deed)
         × MatchOption begun (led.lines ≡ lines) (λ line. led.lines ≡ lines ++ line ∷ [])
-        × IsProcess i (whole_records (T.state tape)) (record {
-            by = tt;
-            lines = lines;
-            texts = led.written.before;
-            begun = begun;
-        }) deeds (whole_records (T.state new.tape)) }
+        × IsProcess i (whole_records (T.state tape))
+        (process_of tt lines led.written.before begun) deeds (whole_records (T.state new.tape)) }
 {}
 
-/// A process may be killed at any moment. Killed between two requests, it is the process of the
-/// lines that it had answered. Killed at a request, whether it left its tape as before the request
-/// or as behind it, it is the process of the lines before, which had begun this one.
+/// A process may be killed at any moment. Between two requests it is a process of the lines that it
+/// had answered. At a request it is a process of the lines before, which had begun this one. Then
+/// its tape has as many records as before this request, or as behind it.
 pub fn processes_may_be_killed()
     ensures { (i old new : ℕ) (process : Process) (deeds : List Deed)
         (lines later answers rest : List (List ℕ)) (first line text : List ℕ)
         → IsProcess i old process deeds new → process.lines ≡ lines ++ line ∷ later
         → process.texts ≡ first ∷ answers ++ text ∷ rest → length lines ≡ length answers
         → (before : ℕ) × (after : ℕ)
-        × ((done : List Deed) × IsProcess i old (record {
-            by = process.by;
-            lines = lines;
-            texts = first ∷ answers;
-            begun = None;
-        }) done before)
-        × ((done : List Deed) × IsProcess i old (record {
-            by = process.by;
-            lines = lines ++ line ∷ [];
-            texts = first ∷ answers ++ text ∷ [];
-            begun = None;
-        }) done after)
-        × ((left : ℕ) → (left ≡ before) ⊎ (left ≡ after)
-        → (done : List Deed) × IsProcess i old (record {
-            by = process.by;
-            lines = lines;
-            texts = first ∷ answers;
-            begun = Some line;
-        }) done left) }
+        × ((done : List Deed)
+        × IsProcess i old (process_of process.by lines (first ∷ answers) None) done before)
+        × ((done : List Deed)
+        × IsProcess i old (process_of process.by (lines ++ line ∷ [])
+        (first ∷ answers ++ text ∷ []) None) done after)
+        × ((left : ℕ) → (left ≡ before) ⊎ (left ≡ after) → (done : List Deed)
+        × IsProcess i old (process_of process.by lines (first ∷ answers) (Some line)) done left) }
+{}
+
+/// What was seen up to any moment is a transcript too, of processes that count as ended then. Each
+/// was between two requests or at one, and its tape had as many records as before that request, or
+/// as behind it. So the laws of transcripts hold at each moment.
+pub fn moments_are_transcripts()
+    ensures one_plan { (tt : Timetable) (processes : ℕ → List Process)
+        (later earlier : Transcript) (deeds : ℕ → List Deed) (tapes : ℕ → ℕ)
+        → IsTranscript (RunsBy tt) processes (later ++ earlier) deeds tapes
+        → (before : ℕ → ℕ) × (after : ℕ → ℕ)
+        × ((i : ℕ) → (before i ≤ after i) × (after i ≤ tapes i))
+        × ((left : ℕ → ℕ) → ((i : ℕ) → (left i ≡ before i) ⊎ (left i ≡ after i))
+        → (cut : ℕ → List Process) × (done : ℕ → List Deed)
+        × IsTranscript (RunsBy tt) cut earlier done left) }
+    ensures of_plans { (last : Timetable) (processes : ℕ → List Process)
+        (later earlier : Transcript) (deeds : ℕ → List Deed) (tapes : ℕ → ℕ)
+        → IsTranscript (SharesMoves last) processes (later ++ earlier) deeds tapes
+        → (before : ℕ → ℕ) × (after : ℕ → ℕ)
+        × ((i : ℕ) → (before i ≤ after i) × (after i ≤ tapes i))
+        × ((left : ℕ → ℕ) → ((i : ℕ) → (left i ≡ before i) ⊎ (left i ≡ after i))
+        → (cut : ℕ → List Process) × (done : ℕ → List Deed)
+        × IsTranscript (SharesMoves last) cut earlier done left) }
+    ensures of_chain { (plan : Plan) (plans : List Plan) (processes : ℕ → List Process)
+        (later earlier : Transcript) (deeds : ℕ → List Deed) (tapes : ℕ → ℕ)
+        → IsTranscript (RunsByChain plan plans) processes (later ++ earlier) deeds tapes
+        → (before : ℕ → ℕ) × (after : ℕ → ℕ)
+        × ((i : ℕ) → (before i ≤ after i) × (after i ≤ tapes i))
+        × ((left : ℕ → ℕ) → ((i : ℕ) → (left i ≡ before i) ⊎ (left i ≡ after i))
+        → (cut : ℕ → List Process) × (done : ℕ → List Deed)
+        × IsTranscript (RunsByChain plan plans) cut earlier done left) }
 {}

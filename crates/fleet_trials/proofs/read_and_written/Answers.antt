@@ -1,9 +1,9 @@
-use Rattle.std.proofs.Common.{◌≡◌, ℕ, zero, suc, ◌+◌, ◌≤◌, List, [], ◌∷◌, ◌++◌, Bool, true, false, get_or, drop, Some, None, Ok, Err, max, eqb, inl, inr, refl, sym, ap, subst, ◌∙◌, lit<, lit≤, arith}
+use Rattle.std.proofs.Common.{◌≡◌, ℕ, zero, suc, List, [], ◌∷◌, ◌++◌, Bool, true, false, get_or, drop, Some, None, Ok, Err, max, eqb, inl, inr, refl, ap, lit<, lit≤, arith}
 use Rattle.std.specs.Prelude.{◌||◌, if◌then◌else◌, codes}
 use Rattle.std.specs.Fmt.{digits}
 use Rattle.std.specs.List.{flat_map}
 use Rattle.std.proofs.lemmas.Bool.{ne_eqb}
-use Rattle.hex.specs.Hex.{encode_with, decode_pairs, decode_of}
+use Rattle.hex.specs.Hex.{encode_with, decode_pairs}
 use Rattle.model.specs.declared.held.Held.TheVariants.{At, Between}
 use Rattle.model.specs.Examples.{leader, follower, row}
 use Rattle.model.specs.Messages.{own_message, message_bytes}
@@ -11,9 +11,9 @@ use Rattle.agent.specs.States.{State}
 use Rattle.agent.specs.declared.refusal.Refusal.TheVariants.{Waits}
 use Rattle.fleet.specs.Deeds.{Deed, opens, starts, finishes, says, hears, ends, ends_starting}
 use Rattle.robot.specs.Requests.{start, finish, say, hear, AsksFor}
-use Rattle.transcripts.specs.Processes.{Process, on_tape, AreProcesses, IsProcess, FitsProcess}
-use Rattle.transcripts.specs.Transcripts.{Seen, seen_in, seen_of, RunsBy, IsHeardLine, SaysIn, WasSaidIn, IsPassedOn, AreAllPassedOn}
-use Rattle.fleet_trials.specs.ReadAndWritten.{cell_in_row, row_processes, row_transcript, leader_killed, leader_again, follower_waiting, leaders_deeds, followers_deeds, row_deeds, row_tapes}
+use Rattle.transcripts.specs.Processes.{Process, AreProcesses, IsProcess, FitsProcess}
+use Rattle.transcripts.specs.Transcripts.{seen_in, seen_of, RunsBy, AreAllPassedOn}
+use Rattle.fleet_trials.specs.ReadAndWritten.{cell_in_row, row_processes, row_transcript, leader_killed, leader_again, follower_waiting, followers_deeds, row_deeds, row_tapes}
 use Rattle.fleet_trials.proofs.read_and_written.Goals as goal
 
 abbrev state : ℕ → Bool → State
@@ -110,18 +110,21 @@ only-follower = record {
       told 0,
       hears (message_bytes 7 0 1) (Ok (0, 1)) ∷ [],
       starts (Ok (cell_in_row 1)) ∷ [],
-      inl (inl (hear (message_bytes 7 0 1), hears (message_bytes 7 0 1) (Ok (0, 1)), asks-to-hear, refl, refl, refl), (
-        told 0,
+      inl (
+        inl (hear (message_bytes 7 0 1), hears (message_bytes 7 0 1) (Ok (0, 1)), asks-to-hear, refl, refl, refl),
         (
-          record { plan = 7; message = own_message 0 1 },
-          record {
-            in_range = record { plan = lit< tt; sender = lit< tt; count = lit< tt; agents = (lit< tt, tt); numbers = (lit< tt, tt) };
-            spelled = inl (1, refl, record { spelled = refl });
-          },
-          (refl, λ j. raised (eqb 0 j), refl, refl),
+          told 0,
+          (
+            record { plan = 7; message = own_message 0 1 },
+            record {
+              in_range = record { plan = lit< tt; sender = lit< tt; count = lit< tt; agents = (lit< tt, tt); numbers = (lit< tt, tt) };
+              spelled = inl (1, refl, record { spelled = refl });
+            },
+            (refl, λ j. raised (eqb 0 j), refl, refl),
+          ),
+          refl,
         ),
-        refl,
-      )),
+      ),
       (
         told 1,
         starts (Ok (cell_in_row 1)) ∷ [],

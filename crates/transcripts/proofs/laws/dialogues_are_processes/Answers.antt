@@ -1,4 +1,4 @@
-use Rattle.std.proofs.Common.{◌≡◌, ℕ, ◌+◌, ◌*◌, ◌≤◌, Bool, List, [], ◌∷◌, ◌++◌, length, drop, get_or, Some, None, Result, Ok, Err, inl, inr, refl, sym, ap, subst, ◌∙◌, arith, length-append}
+use Rattle.std.proofs.Common.{◌≡◌, ℕ, ◌*◌, ◌≤◌, Bool, List, [], ◌∷◌, ◌++◌, length, drop, get_or, Some, None, Err, inr, refl, sym, ap, subst, ◌∙◌, arith, length-append}
 use Rattle.std.specs.Prelude.{Option, MatchOption}
 use Rattle.std.proofs.lemmas.Option.{same_Some}
 use Rattle.model.specs.Timetable.{Track, Timetable, moves, track_of}
@@ -11,7 +11,8 @@ use Rattle.fleet.specs.Deeds.{Deed}
 use Rattle.robot.specs.Turns.{state_line}
 use Rattle.robot.specs.declared.talk_fault.TalkFault.TheVariants.{WriteFailed}
 use Rattle.transcripts.specs.Processes.{on_tape, AreAllAnsweredSo, IsProcess}
-use Rattle.transcripts.proofs.DialogueLemmas.{dialogue-answers, as-many, Last, last-of, Turn, turn-at, Cut, cut-between, cut-within}
+use Rattle.transcripts.proofs.Growing.{same-records}
+use Rattle.transcripts.proofs.DialogueLemmas.{dialogue-answers, as-many, last-of, turn-at, cut-between, cut-within}
 use Rattle.transcripts.proofs.laws.dialogues_are_processes.Goals as goal
 
 -- an agent whose tape was just opened
@@ -60,7 +61,8 @@ module _ (i n : ℕ) (by : Timetable) (first : List ℕ) (track : Track) (there 
         let all = subst (λ l. AreAllAnsweredSo by i track (on_tape n) l (answers ++ last ∷ []) deeds new) end.are
         (subst (λ l. AreAllAnsweredSo by i track (on_tape n) lines l deeds new) rest answered) in
         let turn = turn-at by i track end.before answers [] [] end.line last (on_tape n) new deeds end.many all in
-        let cut = cut-within i n by first track there within is_first end.before answers end.line last [] [] new turn new.records (inr (ap (λ s. s.records) turn.after.1)) in (
+        let ended : new.records ≡ turn.next.records = same-records turn.next new turn.after.1 in
+        let cut = cut-within i n by first track there within is_first end.before answers end.line last [] [] new turn new.records (inr ended) in (
           end.before,
           Some end.line,
           cut.deeds,
@@ -80,6 +82,13 @@ returns-clause-whole g c heeds table i tape old new old_in new_in old_out new_ou
     (ap (state_line led.track) same) led.lines led.texts led.deeds (state_of g.T.Tape.state new) (whole_records (g.T.Tape.state new.tape))
     (subst (λ s. AreAllAnsweredSo table i led.track s led.lines led.texts led.deeds (state_of g.T.Tape.state new)) same answered) refl in
     (cut.deeds, cut.is)
+
+pub returns-clause-wrote_nothing : goal.returns-clause-wrote_nothing
+returns-clause-wrote_nothing g c heeds table i tape old new old_in new_in old_out new_out opened nothing = (
+  refl,
+  refl,
+  ap (λ a. whole_records (g.T.Tape.state a.tape)) nothing.2 ∙ ap (λ l. whole_records (record { contents = l; room = 0; failures = 0 })) opened.contents,
+)
 
 pub returns-clause-broken_off : goal.returns-clause-broken_off
 returns-clause-broken_off g c heeds table i tape old new old_in new_in old_out new_out led opened =

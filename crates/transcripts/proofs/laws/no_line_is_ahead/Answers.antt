@@ -1,6 +1,5 @@
-use Rattle.std.proofs.Common.{◌≤◌, ◌/◌, ap, subst}
+use Rattle.std.proofs.Common.{◌≤◌, ◌/◌, subst}
 use Rattle.model.specs.Messages.{told}
-use Rattle.fleet.specs.OwnPlans.{log_of}
 use Rattle.transcripts.proofs.laws.no_line_is_ahead.Goals as goal
 
 pub returns-clause-one_plan : goal.returns-clause-one_plan

@@ -1,4 +1,4 @@
-use Rattle.std.proofs.Common.{◌≡◌, List, [], ◌∷◌, ◌++◌, drop, get_or, refl, sym, ap, subst}
+use Rattle.std.proofs.Common.{[], ◌∷◌, ◌++◌, refl, subst}
 use Rattle.transcripts.specs.Processes.{on_tape, AreAllAnsweredSo, IsProcessWith}
 use Rattle.transcripts.proofs.DialogueLemmas.{turn-at, answered-more, cut-between, cut-within}
 use Rattle.transcripts.proofs.laws.processes_may_be_killed.Goals as goal

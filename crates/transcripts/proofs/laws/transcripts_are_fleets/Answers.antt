@@ -1,5 +1,4 @@
-use Rattle.std.proofs.Common.{◌≡◌, ℕ, ◌≤◌, List, refl, sym, ap, subst, ◌∙◌}
-use Rattle.std.specs.Prelude.{map}
+use Rattle.std.proofs.Common.{◌≡◌, ℕ, List, refl, sym, subst, ◌∙◌}
 use Rattle.fleet.specs.Deeds.{Deed}
 use Rattle.fleet.specs.Fleets.{fresh, deeds_of}
 use Rattle.fleet.specs.OwnPlans.{log_of, SharesMoves, IsOfChain}
@@ -9,7 +8,6 @@ use Rattle.transcripts.specs.Transcripts.{Transcript, seen_of, IsTranscript, Run
 use Rattle.transcripts.proofs.FleetLemmas.{DidIt, FitsWithin, did-it, fits-as, by-one}
 use Rattle.transcripts.proofs.Growing.{StayWithin}
 use Rattle.transcripts.proofs.ProcessLemmas.{Shown, processes-shown}
-use Rattle.transcripts.proofs.Stepping.{deed_of, AreSeen}
 use Rattle.transcripts.proofs.laws.transcripts_are_fleets.Goals as goal
 
 module _ (stays : StayWithin) (Fits : Timetable → ℕ → Track → ℕ → Type 0) (processes : ℕ → List Process) (transcript : Transcript) (deeds : ℕ → List Deed) (tapes : ℕ → ℕ)
@@ -56,7 +54,7 @@ returns-clause-of_chain c plan plans processes transcript deeds tapes is =
       did.doings,
       λ i. (shown stays (RunsByChain plan plans) processes transcript deeds tapes is i).new,
       fits-as (FitsWithin (RunsByChain plan plans)) (IsOfChain plan plans)
-      (λ by i track count there fits. record { has = fits.1; own = fits.0.0; among = fits.0.1; is_its = fits.0.2 }) did.doings _ did.led,
+          (λ by i track count there fits. record { has = fits.1; own = fits.0.0; among = fits.0.1; is_its = fits.0.2 }) did.doings _ did.led,
       same-deeds stays (RunsByChain plan plans) processes transcript deeds tapes is,
       λ i. (shown stays (RunsByChain plan plans) processes transcript deeds tapes is i).is_new,
       did.said,

@@ -1,9 +1,7 @@
-use Rattle.std.proofs.Common.{◌≡◌, ℕ, ◌/◌, ◌%◌, Some, None, refl, sym, ap, subst, ◌∙◌}
-use Rattle.std.specs.Prelude.{◌==◌, if◌then◌else◌, Option, MatchOption}
+use Rattle.std.proofs.Common.{◌≡◌, ℕ, Some, None, sym, ap, subst, ◌∙◌}
+use Rattle.std.specs.Prelude.{Option, MatchOption}
 use Rattle.grid.specs.declared.cell.Cell.{Cell}
-use Rattle.model.specs.declared.held.Held.{Held}
-use Rattle.model.specs.declared.held.Held.TheVariants.{At, Between}
-use Rattle.model.specs.Rules.{path_cell}
+use Rattle.model.specs.declared.held.Held.TheVariants.{Between}
 use Rattle.model.specs.Safety.{IsIn}
 use Rattle.model.specs.Timetable.{Track, Timetable, track_of}
 use Rattle.agent.specs.States.{State, held_by_tape}
