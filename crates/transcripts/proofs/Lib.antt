@@ -12,5 +12,7 @@ pub mod ProcessLemmas
 pub mod FleetLemmas
 -- dialogues as processes, and processes that end sooner
 pub mod DialogueLemmas
+-- what processes of a chain were told to be free
+pub mod FreeLemmas
 -- what was seen up to a moment
 pub mod MomentLemmas

@@ -95,15 +95,24 @@ pub fn transcripts_are_safe()
 /// two are in one cell, wherever each is between what its tape has as finished and the furthest
 /// that was free.
 pub fn drives_ahead_are_safe()
-    ensures { (map : Grid) (plan : Plan) (tt : Timetable) (processes : ℕ → List Process)
-        (transcript : Transcript) (deeds : ℕ → List Deed) (tapes : ℕ → ℕ) → IsPlan plan
-        → IsValid map plan → IsTimetableOf plan tt
+    ensures one_plan { (map : Grid) (plan : Plan) (tt : Timetable)
+        (processes : ℕ → List Process) (transcript : Transcript) (deeds : ℕ → List Deed)
+        (tapes : ℕ → ℕ) → IsPlan plan → IsValid map plan → IsTimetableOf plan tt
         → IsTranscript (RunsBy tt) processes transcript deeds tapes
         → (log : Log) × ((i : ℕ) → deeds_of log i ≡ deeds i)
         × IsSafeAhead tt log (states_on tapes) }
+    ensures of_chain { (map : Grid) (plan : Plan) (plans : List Plan) (last : Timetable)
+        (processes : ℕ → List Process) (transcript : Transcript) (deeds : ℕ → List Deed)
+        (tapes : ℕ → ℕ) → IsChain plan plans → IsPlan (last_plan plan plans)
+        → IsValid map (last_plan plan plans) → IsTimetableOf (last_plan plan plans) last
+        → IsTranscript (RunsByChain plan plans) processes transcript deeds tapes
+        → (log : Log) × ((i : ℕ) → deeds_of log i ≡ deeds i)
+        × IsSafeAhead last log (states_on tapes) }
 {
     transcripts_are_fleets();
     fleet::laws::ahead_of_tapes();
+    fleet::laws::extending();
+    continuing::laws::chains_of_plans();
 }
 
 /// No line says that an agent has finished more moves than its tape has. Where a line says so, the
@@ -121,8 +130,17 @@ pub fn no_line_is_ahead()
         → IsTranscript (SharesMoves last) processes transcript deeds tapes
         → track_of last i ≡ Some track → WasSaidIn bytes transcript → BytesTell bytes t
         → told t.message i ≤ finished_moves (states_on tapes i) }
+    ensures of_chain { (map : Grid) (plan : Plan) (plans : List Plan) (last : Timetable)
+        (processes : ℕ → List Process) (transcript : Transcript) (deeds : ℕ → List Deed)
+        (tapes : ℕ → ℕ) (i : ℕ) (track : Track) (bytes : List ℕ) (t : Telling) → IsTellable last
+        → IsChain plan plans → IsValid map (last_plan plan plans)
+        → IsTimetableOf (last_plan plan plans) last
+        → IsTranscript (RunsByChain plan plans) processes transcript deeds tapes
+        → track_of last i ≡ Some track → WasSaidIn bytes transcript → BytesTell bytes t
+        → told t.message i ≤ finished_moves (states_on tapes i) }
 {
     transcripts_are_fleets();
+    fleet::laws::extending();
     fleet::laws::no_tape_is_behind();
 }
 
