@@ -349,7 +349,7 @@ module _ (table : Timetable) (tellable : IsTellable table) (one : (bytes : List 
     known-met k met = met-more (known_in (mid i).heard) (Finished mid) (need table i track k)
         (λ asked asks. (let to = need-there table i k track asked asks in knows.known i asked.agent track to.0 there to.1)) met
 
-    begun-after : (deed : Deed) (k : ℕ) → Does table i track (mid i) deed (states i) → k < begun_moves (states i) → IsMet (Finished mid) (need table i track k)
+    pub begun-after : (deed : Deed) (k : ℕ) → Does table i track (mid i) deed (states i) → k < begun_moves (states i) → IsMet (Finished mid) (need table i track k)
     begun-after deed k does less = elim (cases_lt k (begun_moves (mid i))) [
       | inl early ↦ knows.begun i track k there early
       | inr late ↦ begins deed does late

@@ -16,6 +16,8 @@ pub mod KnowsLemmas
 pub mod WalkLemmas
 -- a fleet is safe
 pub mod SafeLemmas
+-- nobody begins a move of a rotation
+pub mod TurningLemmas
 -- the messages of a plan that the checker accepts can tell its numbers
 pub mod TellableLemmas
 -- where one deed of an agent leads the run of its fleet

@@ -12,7 +12,7 @@ ghost use Rattle.model.specs.History.{History};
 ghost use Rattle.model.specs.Messages.{Message, told, own_message, message_bytes, told_bytes};
 ghost use Rattle.model.specs.Plan.{Plan, IsValid, IsTimetableOf};
 ghost use Rattle.model.specs.Rules.{IsRun};
-ghost use Rattle.model.specs.Timetable.{Track, Timetable, moves};
+ghost use Rattle.model.specs.Timetable.{Track, Timetable, moves, moves_before};
 ghost use Rattle.model.specs.Timetable.{track_of, IsConflictFree, IsSwapFree};
 ghost use Rattle.plan_text.specs.Limits.{IsPlan};
 ghost use Rattle.agent.specs.Agents.{AgentOn, state_of, Starts, Finishes};
@@ -211,6 +211,29 @@ pub fn lost_drives()
         → IsMet (λ j. finished_moves (states j)) (need last i track k) }
 {
     agent::laws::tellings();
+}
+
+/// No agent of a fleet begins a move of a rotation, whatever happens, nor more moves than it has.
+pub fn rotations_stay_closed()
+    ensures fleet { (tt : Timetable) (log : Log) (states : ℕ → State) (step : ℕ) (agents : List ℕ)
+        (place i : ℕ) (track : Track) → IsTellable tt → IsConflictFree tt
+        → IsRotation tt step agents → IsFleet tt log states → slice_get agents place ≡ Some i
+        → track_of tt i ≡ Some track → begun_moves (states i) ≤ moves_before track step }
+    ensures of_plans { (last : Timetable) (doings : Doings) (states : ℕ → State) (step : ℕ)
+        (agents : List ℕ) (place i : ℕ) (track : Track) → IsTellable last → IsConflictFree last
+        → IsRotation last step agents → IsFleetBy (SharesMoves last) doings states
+        → slice_get agents place ≡ Some i → track_of last i ≡ Some track
+        → begun_moves (states i) ≤ moves_before track step }
+    ensures within { (tt : Timetable) (log : Log) (states : ℕ → State) (i : ℕ) (track : Track)
+        → IsTellable tt → IsFleet tt log states → track_of tt i ≡ Some track
+        → begun_moves (states i) ≤ moves track }
+    ensures within_last { (last : Timetable) (doings : Doings) (states : ℕ → State) (i : ℕ)
+        (track : Track) → IsTellable last → IsFleetBy (SharesMoves last) doings states
+        → track_of last i ≡ Some track → begun_moves (states i) ≤ moves track }
+{
+    model::laws::needs();
+    agent::laws::tellings();
+    fleets_of_plans();
 }
 
 /// A fleet whose drives went ahead may turn to another way: where every drive stopped, and its tape
