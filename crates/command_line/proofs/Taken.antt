@@ -58,7 +58,13 @@ commands_give = (
                               λ other words. command_given (usage 14) words (search rules),
                               (
                                 λ other words. command_given (usage 15) words (search rules),
-                                (λ other words. command_given (usage 16) words (search rules), (λ other. let bad : true ≡ false = other in cc, tt)),
+                                (
+                                  λ other words. command_given (usage 16) words (search rules),
+                                  (
+                                    λ other words. command_given (usage 17) words (search rules),
+                                    (λ other. let bad : true ≡ false = other in cc, tt),
+                                  ),
+                                ),
                               ),
                             ),
                           ),

@@ -172,6 +172,13 @@ run_usages =
       flags = codes "json" ∷ explain_flag ∷ [];
     }
     ∷ record {
+      name = codes "lost";
+      required = codes "map" ∷ codes "plan" ∷ codes "tapes" ∷ codes "id" ∷ [];
+      options = [];
+      cells = [];
+      flags = explain_flag ∷ [];
+    }
+    ∷ record {
       name = codes "handover";
       required = codes "map" ∷ codes "plan" ∷ codes "tapes" ∷ [];
       options = [];
@@ -324,6 +331,8 @@ HasValues name rows =
     × (name ≡ codes "anew" → GivesNumberBelow (2 ^ 32) (codes "number") rows)
     × (name ≡ codes "anew" → GivesNumbers (2 ^ 16) (codes "without") rows)
     × (name ≡ codes "status" → GivesPattern (codes "tapes") rows)
+    × (name ≡ codes "lost" → GivesNumberBelow (2 ^ 16) (codes "id") rows)
+    × (name ≡ codes "lost" → GivesPattern (codes "tapes") rows)
     × (name ≡ codes "handover" → GivesPattern (codes "tapes") rows)
     × (name ≡ codes "anew" → GivesPattern (codes "tapes") rows)
 
@@ -377,6 +386,8 @@ IsPlanQuery name rows (query.Cut time) = (name ≡ codes "cut") × GivesNumber (
 abbrev pub IsFleetQuery : Text → List Row → FleetQuery → Type 0
 IsFleetQuery name rows (fleet_query.Status json) =
     (name ≡ codes "status") × (json ≡ true ↔ IsFlagGiven (codes "json") rows)
+IsFleetQuery name rows (fleet_query.Lost agent) =
+    (name ≡ codes "lost") × GivesNumber (codes "id") rows agent
 IsFleetQuery name rows fleet_query.Handover = name ≡ codes "handover"
 IsFleetQuery name rows (fleet_query.Anew number without) =
     (name ≡ codes "anew") × GivesNumber (codes "number") rows number

@@ -28,7 +28,7 @@ pub(crate) struct CommandText<'a> {
 
 /// The version, and in a second line the kit that proved it, as `tools/dist.py` finds it.
 pub(crate) const VERSION: &str = "0.2.0-dev
-proved by rattle-kit-13f logic dac8208d650f15bf";
+proved by rattle-kit-13b logic dac8208d650f15bf";
 
 pub(crate) const PROGRAM_ABOUT: &str =
     "Reads maps, scenarios and plans, answers what they hold, and runs plans";
@@ -76,6 +76,11 @@ pub(crate) const AGENT_ID: NumberText = NumberText {
 pub(crate) const TAPE_ID: NumberText = NumberText {
     wanted: AGENT_WANTED,
     usage: "mapf tape [OPTIONS] <map> <plan> <id> <file>",
+};
+
+pub(crate) const LOST_ID: NumberText = NumberText {
+    wanted: AGENT_WANTED,
+    usage: "mapf lost [OPTIONS] <map> <plan> <tapes> <id>",
 };
 
 pub(crate) const NEW_NUMBER: NumberText = NumberText {
@@ -139,7 +144,7 @@ For more information, try '--help'.
 pub(crate) const NO_PATTERN: &str =
     "error: invalid value for '<tapes>': a name with % for an agent's number is wanted
 
-Usage: mapf <status|handover|anew> <map> <plan> <tapes>
+Usage: mapf <status|lost|handover|anew> <map> <plan> <tapes>
 
 For more information, try '--help'.
 ";

@@ -21,6 +21,8 @@ use std::alloc::Global;
 pub enum FleetQuery {
     /// Where the agents are, and who keeps whom; `json` asks for each line as JSON.
     Status { json: bool },
+    /// In which cells the robot of an agent may be that is lost.
+    Lost { agent: u16 },
     /// The plan as far as all is made that is begun.
     Handover,
     /// A plan of its own, with this number, of what isn't begun, perhaps without an agent.
@@ -53,6 +55,7 @@ pub(crate) fn read_run_command(
         "agent" => Some(read_agent(alloc, given)),
         "tape" => Some(read_tape(alloc, given)),
         "status" => Some(read_status(alloc, given)),
+        "lost" => Some(read_lost(alloc, given)),
         "handover" => Some(read_handover(alloc, given)),
         "anew" => Some(read_anew(alloc, given)),
         _ => None,
@@ -121,6 +124,24 @@ fn read_status(alloc: Global, given: &ArgMatches<'_>) -> Result<Line, LineFault>
         tapes: tapes_word(alloc, given)?,
         query: FleetQuery::Status {
             json: has_flag(given, "json"),
+        },
+    }))
+}
+
+/// Reads `lost` by the words that it was given.
+fn read_lost(alloc: Global, given: &ArgMatches<'_>) -> Result<Line, LineFault>
+    ensures ok { IfOk result (IsCommand (codes "lost") (rows_of (found_of given.now))) }
+    ensures err { IfErr result (λ e. HasWords (codes "lost") (rows_of (found_of given.now))
+        → HasValues (codes "lost") (rows_of (found_of given.now))
+        → e ≡ LineFault.OutOfMemory) }
+    ensures refusal { IfErr result IsRefusal }
+{
+    Ok(Line::Fleet(FleetLine {
+        map: word(alloc, given, "map")?,
+        plan: word(alloc, given, "plan")?,
+        tapes: tapes_word(alloc, given)?,
+        query: FleetQuery::Lost {
+            agent: agent_id(alloc, given, &help::LOST_ID)?,
         },
     }))
 }
@@ -319,6 +340,39 @@ Example:
                 "The files of the tapes, with % for an agent's number",
             ),
             Flag("json", "Writes each line as JSON"),
+            EXPLAIN,
+        ],
+    },
+    CommandText {
+        name: "lost",
+        about: "Says in which cells a robot may be that is lost",
+        after_help: "\
+Ask when no agent of the plan runs any more. Standard output is a line for each
+place on the path of agent ID in which its robot may be, in the order of the
+path:
+  at X Y done K   it may be in this cell, to which its first K moves lead
+The first place is that of its tape, or its start where the tape is lost. The
+others are as far as its drive can have been told to go, by what the tapes of
+the others have. The tapes are read as by `mapf status`; each may have a fault.
+
+Status:
+  0  the lines are written
+  1  a text or the plan has a fault, there is no such agent, or the tapes are
+     not those of one run (NotOneRun): `mapf status` says more
+  2  a bad command line
+  3  a file can't be opened (--explain says which, and why), a device failed, or
+     memory was refused
+
+Example:
+  mapf lost examples/plain.map examples/behind.plan robot%.tape 1",
+        words: &[
+            Required("map", "The file of the map"),
+            Required("plan", "The file of the plan"),
+            Required(
+                "tapes",
+                "The files of the tapes, with % for an agent's number",
+            ),
+            Required("id", "The number of the agent, counted from 0"),
             EXPLAIN,
         ],
     },

@@ -12,6 +12,9 @@ returns-in-tape-clause-err c = named_want (rows_of (found_of c.args.given.now)) 
 pub returns-in-status-clause-err : goal.returns-in-status-clause-err
 returns-in-status-clause-err c = named_want (rows_of (found_of c.args.given.now)) c.read_status.result c.in-status.is c.read_status.ensures.err
 
+pub returns-in-lost-clause-err : goal.returns-in-lost-clause-err
+returns-in-lost-clause-err c = named_want (rows_of (found_of c.args.given.now)) c.read_lost.result c.in-lost.is c.read_lost.ensures.err
+
 pub returns-in-handover-clause-err : goal.returns-in-handover-clause-err
 returns-in-handover-clause-err c = named_want (rows_of (found_of c.args.given.now)) c.read_handover.result c.in-handover.is c.read_handover.ensures.err
 
