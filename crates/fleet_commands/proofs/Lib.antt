@@ -7,3 +7,13 @@ pub mod PieceLemmas
 pub mod ReadLemmas
 pub mod RunLemmas
 pub mod PlanLemmas
+pub mod LostLemmas
+pub mod PlaceLemmas
+pub mod LeftWalks
+pub mod RestLemmas
+pub mod LeftIndexes
+pub mod LeftValid
+pub mod TurnedLemmas
+pub mod BeginLemmas
+pub mod KeptLemmas
+pub mod WaitLemmas

@@ -1,5 +1,5 @@
 -- What comes of a plan that was read.
-use Rattle.std.proofs.Common.{◌≡◌, ◌∙◌, ℕ, List, [], Ok, Err, inl, inr, sym, subst}
+use Rattle.std.proofs.Common.{◌≡◌, ◌∙◌, ℕ, List, [], Ok, Err, inl, inr, refl, sym, subst}
 use Rattle.std.specs.Prelude.{Option, Result}
 use Rattle.text_io.specs.declared.counted.Counted.{Counted}
 use Rattle.grid.specs.Map.{Grid}
@@ -7,15 +7,17 @@ use Rattle.model.specs.Plan.{Plan, IsValid}
 use Rattle.model.specs.declared.plan_fault.PlanFault.{PlanFault}
 use Rattle.model.specs.declared.plan_fault.PlanFault.TheVariants as plan_fault
 use Rattle.checker.specs.Checking.{IsRefusedFor}
+use Rattle.model.specs.Timetable.{Timetable}
 use Rattle.planned.specs.Planned.{IsAtHand}
 use Rattle.planned.specs.declared.planned_fault.PlannedFault.{PlannedFault}
 use Rattle.planned.specs.declared.reading.PlanAtHand.{PlanAtHand}
 use Rattle.agent_commands.specs.FileDeeds.{FileDeed}
-use Rattle.fleet_commands.specs.HandoverCommand.{AreReadAs, ReadsThen}
+use Rattle.fleet_commands.specs.HandoverCommand.{AreAllKnown, AreReadAs, ReadsThen}
 use Rattle.fleet_commands.specs.AnewCommand.{IsBegunAnew, MayBeAnew}
-use Rattle.fleet_commands.specs.FoundTapes.{Found}
+use Rattle.fleet_commands.specs.FoundTapes.{Found, AreFoundIn}
 use Rattle.fleet_commands.specs.LeftPlan.{left_plan}
-use Rattle.fleet_commands.specs.Code.Reading.{IsJudgedSo, IsNotKnownBy, fault_of}
+use Rattle.fleet_commands.specs.Code.Reading.{IsHeldToOneRun, IsJudgedSo, IsNotKnownBy, fault_of}
+use Rattle.fleet_commands.specs.StatusText.{run_lines}
 use Rattle.fleet_commands.specs.declared.handover_fault.HandoverFault.{HandoverFault}
 use Rattle.fleet_commands.specs.declared.handover_fault.HandoverFault.TheVariants.{Planned, NoSuchAgent, SameNumber, BadTape, NotOneRun, OutOfMemory}
 
@@ -62,3 +64,13 @@ module _ (WasDone : FileDeed → Type 0) (without : Option ℕ) (number : ℕ) (
   left-as found left are is (Err (BadTape i)) checked = absurd checked
   left-as found left are is (Err NotOneRun) checked = (may, inr (found, are, λ valid. checked (subst (IsValid it.map) (sym is) valid)))
   left-as found left are is (Err OutOfMemory) checked = tt
+
+-- tapes that were read, and are not those of one run
+pub held-unknown : (WasDone : FileDeed → Type 0) (table : Timetable) (without : Option ℕ) (found : List Found) → AreFoundIn WasDone table found → AreAllKnown without found
+    → (fault : HandoverFault) → IsHeldToOneRun table without found (Err fault) → IsNotKnownBy WasDone table without fault
+held-unknown WasDone table without found are known NotOneRun held = (found, run_lines table without held.0 found, (are, known, (held.0, held.1, refl)), held.2)
+held-unknown WasDone table without found are known OutOfMemory held = tt
+held-unknown WasDone table without found are known NoSuchAgent held = absurd held
+held-unknown WasDone table without found are known SameNumber held = absurd held
+held-unknown WasDone table without found are known (BadTape i) held = absurd held
+held-unknown WasDone table without found are known (Planned fault) held = absurd held

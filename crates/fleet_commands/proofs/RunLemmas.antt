@@ -18,7 +18,7 @@ use Rattle.fleet_commands.specs.declared.keeping.Keeping.TheVariants.{Other}
 use Rattle.fleet_commands.specs.declared.one_run.Unmet.{Unmet}
 use Rattle.fleet_commands.proofs.LineLemmas.{turn-more}
 
-both-empty : {A : Type 0} (xs ys : List A) → xs ++ ys ≡ [] → (xs ≡ []) × (ys ≡ [])
+pub both-empty : {A : Type 0} (xs ys : List A) → xs ++ ys ≡ [] → (xs ≡ []) × (ys ≡ [])
 both-empty [] ys none = (refl, none)
 both-empty (x ∷ xs) ys none = (let bad = ap length none in absurd (omega (arith, bad)))
 
@@ -90,7 +90,7 @@ begun-first None = omega arith
 begun-first (Some (Ok records)) = omega arith
 begun-first (Some (Err fault)) = omega arith
 
-begun-within : (o : Option Found) (most : ℕ) → ((records : ℕ) → o ≡ Some (Ok records) → records ≤ 2 * most) → unwrap_or (option_map begun_in_tape o) 0 ≤ most
+pub begun-within : (o : Option Found) (most : ℕ) → ((records : ℕ) → o ≡ Some (Ok records) → records ≤ 2 * most) → unwrap_or (option_map begun_in_tape o) 0 ≤ most
 begun-within None most within = omega arith
 begun-within (Some (Ok records)) most within = (let few = within records refl in omega (arith, few))
 begun-within (Some (Err fault)) most within = omega arith

@@ -6,12 +6,18 @@
 pub mod FoundTapes
 -- what keeps each agent by that, and who keeps whom
 pub mod Standing
+-- who waits for whom, directly or through others
+pub mod Waiting
 -- what is made of numbers in turn
 pub mod Turns
 -- what is left of a plan
 pub mod LeftPlan
+-- what that has of the old one
+pub mod LeftWays
 -- what shows that the tapes are not those of one run
 pub mod OneRun
+-- in which cells a robot may be that is lost
+pub mod LostPlaces
 -- what the plans beside them come to
 pub mod PlansBeside
 -- what is written of it
@@ -24,6 +30,8 @@ pub mod CutTimes
 pub mod FaultWords
 -- what `mapf handover` does and answers
 pub mod HandoverCommand
+-- what `mapf lost` does and answers
+pub mod LostCommand
 -- what `mapf anew` does and answers
 pub mod AnewCommand
 -- What contracts of private functions say.

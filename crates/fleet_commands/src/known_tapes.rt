@@ -4,13 +4,14 @@ ghost use Rattle.fleet_commands.specs.FoundTapes.{AreWithinMoves};
 ghost use Rattle.fleet_commands.specs.HandoverCommand.{AreAllKnown, AreReadAs};
 ghost use Rattle.fleet_commands.specs.HandoverCommand.{IsFirstUnknown, is_unknown};
 ghost use Rattle.fleet_commands.specs.LeftPlan.{is_left_out};
-ghost use Rattle.fleet_commands.specs.Code.Reading.{IsNotKnownBy};
+ghost use Rattle.fleet_commands.specs.Code.Reading.{IsHeldToOneRun, IsNotKnownBy};
 
 use crate::found_tapes::{is_known, read_tapes};
 use crate::handover_fault::HandoverFault;
 use crate::one_run::push_run_lines;
 use agent_commands::{AgentFault, ReadFiles};
 use depgraph::Dependencies;
+use std::alloc::Global;
 
 /// Reads the tapes of all agents. But for that of an agent that is left out each has to be right,
 /// and nothing may show that they are not those of one run.
@@ -31,16 +32,26 @@ pub(crate) fn read_known<R: ReadFiles + AllocGlobal>(
     if let Some(agent) = first_unknown(&found, without) {
         return Err(HandoverFault::BadTape(agent));
     }
-    let mut lines = Vec::new(rt.alloc());
-    push_run_lines(
-        &mut lines,
-        dependencies,
-        dependencies.rotations(),
-        &found,
-        without,
-    )?;
+    hold_one_run(rt.alloc(), dependencies, &found, without)?;
+    Ok(found)
+}
+
+/// Refuses tapes of which something shows that they are not those of one run, but for that of an
+/// agent that is left out.
+pub(crate) fn hold_one_run(
+    alloc: Global,
+    dependencies: &Dependencies,
+    found: &[Result<u32, AgentFault>],
+    without: Option<u16>,
+) -> Result<(), HandoverFault>
+    requires { AreWithinMoves dependencies.now found.now }
+    ensures { IsHeldToOneRun dependencies.now without found.now result }
+{
+    let rotations = dependencies.rotations();
+    let mut lines = Vec::new(alloc);
+    push_run_lines(&mut lines, dependencies, rotations, found, without)?;
     if lines.is_empty() {
-        Ok(found)
+        Ok(())
     } else {
         Err(HandoverFault::NotOneRun)
     }

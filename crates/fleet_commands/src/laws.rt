@@ -1,16 +1,30 @@
 //! What it comes to that a plan is handed over, and that tapes are those of one run: laws, which
 //! hold of all plans and need no code.
-ghost use Rattle.std.specs.Prelude.{◌≡◌, ◌≤◌, ℕ, List, [], length, None, Some};
+ghost use Rattle.std.specs.Prelude.{◌≡◌, ◌+◌, ◌<◌, ◌≤◌, ℕ, false, List, [], length, map};
+ghost use Rattle.std.specs.Prelude.{Option, None, Some};
 ghost use Rattle.grid.specs.declared.cell.Cell.{Cell};
-ghost use Rattle.model.specs.Plan.{Plan, IsTimetableOf};
+ghost use Rattle.grid.specs.Map.{Grid};
+ghost use Rattle.model.specs.Dependency.{IsRotation};
+ghost use Rattle.model.specs.Plan.{Plan, IsTimetableOf, IsValid};
+ghost use Rattle.model.specs.Rules.{path_cell};
 ghost use Rattle.model.specs.Safety.{MayBeIn};
 ghost use Rattle.model.specs.Timetable.{Track, Timetable, moves, track_of, IsConflictFree};
-ghost use Rattle.depgraph.specs.Rotations.{Turn};
+ghost use Rattle.depgraph.specs.Rotations.{Turn, AreRotations};
 ghost use Rattle.continuing.specs.Continuing.{cut_at};
+ghost use Rattle.agent.specs.States.{State, finished_moves};
+ghost use Rattle.fleet.specs.Ahead.{reach, AreLooksWithin};
+ghost use Rattle.fleet.specs.Fleets.{Log, IsFleet, IsTellable};
+ghost use Rattle.fleet.specs.OwnPlans.{Doings, log_of, IsFleetBy, SharesMoves};
 ghost use Rattle.fleet_commands.specs.FoundTapes.{Found, AreWithinMoves, begun_by, finished_by};
 ghost use Rattle.fleet_commands.specs.CutTimes.{HasAllBegun};
 ghost use Rattle.fleet_commands.specs.HandoverCommand.{AreAllKnown};
+ghost use Rattle.fleet_commands.specs.LeftPlan.{first_step, is_left_out, left_plan};
+ghost use Rattle.fleet_commands.specs.LeftWays.{IsRestOf, number_before, number_left};
+ghost use Rattle.fleet_commands.specs.LostPlaces.{AreTapesOf, IsFurthest};
+ghost use Rattle.fleet_commands.specs.Standing.{keepers_of, kept_count, kept_now, waited_for};
+ghost use Rattle.fleet_commands.specs.Standing.{waits_of};
 ghost use Rattle.fleet_commands.specs.StatusText.{run_lines};
+ghost use Rattle.fleet_commands.specs.Waiting.{AreAllThatWait};
 
 /// Where a plan is cut at a time by which all is made that was begun, no agent has begun more moves
 /// than what is left has, nor has its tape more records than two a move: so the fleet may go over
@@ -26,6 +40,89 @@ pub fn cuts_have_all_begun()
 {
     continuing::laws::cuts();
     continuing::laws::moves_stay();
+}
+
+/// A robot that is lost is in one of the cells that `mapf lost` names, where its fleet's tapes were
+/// read when no agent ran any more: wherever its drive may be, also ahead of its tape, that is one
+/// of the places from the end of its last finished move by its tape to the furthest.
+pub fn lost_robots_are_near()
+    ensures fleet { (tt : Timetable) (log : Log) (states : ℕ → State) (found : List Found)
+        (i last : ℕ) (track : Track) (c : Cell) → IsTellable tt → IsFleet tt log states
+        → AreTapesOf None found states → track_of tt i ≡ Some track
+        → IsFurthest tt found i track last
+        → MayBeIn tt (reach log states) (λ j. finished_moves (states j)) i c
+        → (n : ℕ) × (finished_by found i ≤ n) × (n ≤ last) × (path_cell track n ≡ c) }
+    ensures of_plans { (tt : Timetable) (doings : Doings) (states : ℕ → State) (found : List Found)
+        (i last : ℕ) (track : Track) (c : Cell) → IsTellable tt
+        → IsFleetBy (SharesMoves tt) doings states → AreLooksWithin tt [] doings
+        → AreTapesOf None found states → track_of tt i ≡ Some track
+        → IsFurthest tt found i track last
+        → MayBeIn tt (reach (log_of doings) states) (λ j. finished_moves (states j)) i c
+        → (n : ℕ) × (finished_by found i ≤ n) × (n ≤ last) × (path_cell track n ≡ c) }
+{
+    fleet::laws::lost_drives();
+}
+
+/// By the plan that `mapf anew` writes each agent walks the rest of its way. Behind the moves that
+/// it has begun it makes the same ones, through the same cells, each in its step less one number,
+/// which is the same for all.
+pub fn what_is_left_is_the_rest()
+    ensures { (p : Plan) (tt new : Timetable) (found : List Found) (without : Option ℕ)
+        (number i : ℕ) (track : Track) → IsTimetableOf p tt → AreWithinMoves tt found
+        → IsTimetableOf (left_plan p tt found without number) new
+        → is_left_out without i ≡ false → track_of tt i ≡ Some track
+        → (after : Track) × (track_of new (number_left without i) ≡ Some after)
+        × IsRestOf (begun_by found i) (first_step tt found without) track after }
+{}
+
+/// That plan has no rotation that the old one had not: the agents of each are those of a rotation
+/// of the old plan, so many steps later.
+pub fn no_rotation_is_new()
+    ensures { (p : Plan) (tt new : Timetable) (found : List Found) (without : Option ℕ)
+        (number step : ℕ) (agents : List ℕ) → IsTimetableOf p tt → AreWithinMoves tt found
+        → IsTimetableOf (left_plan p tt found without number) new → IsRotation new step agents
+        → IsRotation tt (step + first_step tt found without)
+        (map (number_before without) agents) }
+{}
+
+/// A fleet that stopped may always begin anew: `mapf anew` never answers `NotOneRun` of the tapes
+/// that it left. Nothing shows that they are not those of one run, and what is left of its plan is
+/// valid. So it is of a fleet that went over to this plan.
+pub fn fleets_begin_anew()
+    ensures fleet { (map : Grid) (p : Plan) (tt : Timetable) (log : Log) (states : ℕ → State)
+        (found : List Found) (turns : List Turn) (without : Option ℕ) (number : ℕ)
+        → IsTellable tt → IsValid map p → IsTimetableOf p tt → IsFleet tt log states
+        → AreRotations tt turns
+        → length found ≡ length tt.tracks → AreAllKnown without found
+        → AreTapesOf without found states
+        → (run_lines tt without turns found ≡ [])
+        × IsValid map (left_plan p tt found without number) }
+    ensures of_plans { (map : Grid) (p : Plan) (tt : Timetable) (doings : Doings)
+        (states : ℕ → State) (found : List Found) (turns : List Turn) (without : Option ℕ)
+        (number : ℕ) → IsTellable tt → IsValid map p → IsTimetableOf p tt
+        → IsFleetBy (SharesMoves tt) doings states → AreRotations tt turns
+        → length found ≡ length tt.tracks → AreAllKnown without found
+        → AreTapesOf without found states
+        → (run_lines tt without turns found ≡ [])
+        × IsValid map (left_plan p tt found without number) }
+{
+    model::laws::timetables();
+    model::laws::needs();
+    model::laws::met_needs_keep_apart();
+    fleet::laws::fleets_of_plans();
+    fleet::laws::lost_drives();
+    fleet::laws::rotations_stay_closed();
+}
+
+/// A line `root J keeps K` of `mapf status` counts just those agents that wait for agent J, which
+/// waits for nobody: directly, or through others.
+pub fn roots_keep_who_waits()
+    ensures { (tt : Timetable) (found : List Found) (j : ℕ) → IsConflictFree tt
+        → j < length tt.tracks → waited_for (kept_now tt found j) ≡ None
+        → (agents : List ℕ) × AreAllThatWait tt found j agents
+        × (length agents ≡ kept_count (keepers_of (waits_of tt found)) j) }
+{
+    model::laws::needs();
 }
 
 /// Where nothing shows that tapes are not those of one run, and an agent is opened on each, no two

@@ -68,7 +68,8 @@ fn push_left(
     ensures fault { IfErr result (λ fault. fault ≡ handover_fault.OutOfMemory) }
     ensures left { IfOk result (λ _. left.new ≡ record left.old {
       courses = left.old.courses
-          ++ left_courses_by ahead.begun ahead.first (track_of at_hand.now.dependencies agent) (course_of at_hand.now.plan agent);
+          ++ left_courses_by ahead.begun ahead.first (track_of at_hand.now.dependencies agent)
+          (course_of at_hand.now.plan agent);
     }) }
 {
     let Some(course) = at_hand.plan.courses().get(usize::from(agent)) else {

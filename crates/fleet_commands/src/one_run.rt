@@ -136,7 +136,7 @@ fn first_unmet(
 }
 
 /// What keeps a move from its beginning, where the tape counts that says so.
-fn unmet_by(
+pub(crate) fn unmet_by(
     found: &[Result<u32, AgentFault>],
     without: Option<u16>,
     keeping: Keeping,
