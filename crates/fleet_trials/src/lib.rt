@@ -11,9 +11,10 @@ ghost use Rattle.fleet_trials.specs.ReadAndWritten.{row_deeds, row_tapes};
 ghost use Rattle.transcripts.specs.Transcripts.{IsTranscript, RunsBy};
 
 /// A fleet of two, whose leader is killed in the middle of a write, and which its follower hears
-/// only later, beside what nobody said, and by the other version of messages; and a round that brings nobody on, since the one that is waited for is not heard in
-/// it. And a fleet that goes over to a longer plan, which nobody does who moves otherwise; and how
-/// far drives may have gone ahead that stopped.
+/// only later, beside what nobody said, and by the other version of messages; and a round that
+/// brings nobody on, since the one that is waited for is not heard in it. And a fleet that goes
+/// over to a longer plan, which nobody does who moves otherwise; and how far drives may have gone
+/// ahead that stopped.
 pub fn examples()
     ensures led { IsFleet row led led_states }
     ensures unheard { UnheardRound }

@@ -43,6 +43,7 @@ use Rattle.agent_commands.specs.FileDeeds.FileDeed.{opens_file}
 use Rattle.agent_commands.specs.TapeCommand.{AnswersTape, EndsWithoutTape}
 use Rattle.fleet_commands.specs.AnewCommand.{AnswersAnew}
 use Rattle.fleet_commands.specs.HandoverCommand.{AnswersHandover}
+use Rattle.fleet_commands.specs.LostCommand.{AnswersLost}
 use Rattle.fleet_commands.specs.StatusCommand.{AnswersStatus}
 use Rattle.explain.specs.Explaining.{AddsMore}
 
@@ -140,6 +141,8 @@ abbrev pub AnswersFleet
     → Counted M → Counted M → Counted P → Counted P → Counted W → Counted W → End → Type 0
 AnswersFleet map_left plan_left WasDone contents (fleet_query.Status json) a b c d old new end =
     AnswersStatus map_left plan_left WasDone contents json a b c d old new end
+AnswersFleet map_left plan_left WasDone contents (fleet_query.Lost agent) a b c d old new end =
+    AnswersLost map_left plan_left WasDone contents agent a b c d old new end
 AnswersFleet map_left plan_left WasDone contents fleet_query.Handover a b c d old new end =
     AnswersHandover map_left plan_left WasDone contents a b c d old new end
 AnswersFleet map_left plan_left WasDone contents (fleet_query.Anew number without) a b c d

@@ -16,7 +16,7 @@ pub use command_line::{
 };
 pub use ending::{Ending, Status, conclude};
 pub use explain::Style;
-pub use fleet_commands::{NewPlan, anew_cmd, handover_cmd, status_cmd};
+pub use fleet_commands::{NewPlan, anew_cmd, handover_cmd, lost_cmd, status_cmd};
 pub use plan_commands::{continues_cmd, cut_cmd, deps_cell_cmd, deps_cmd, path_cmd};
 pub use program::{Screen, run};
 pub use proof_commands::optimal_cmd;

@@ -23,7 +23,7 @@ use command_line::{
 };
 use ending::Ending;
 use explain::NamedFile;
-use fleet_commands::{NewPlan, anew_command, handover_command, status_command};
+use fleet_commands::{NewPlan, anew_command, handover_command, lost_command, status_command};
 use plan_commands::continues_command;
 use proof_commands::optimal_command;
 use run_commands::run_command;
@@ -391,6 +391,10 @@ fn fleet_on_files<R: ReadFiles + AllocGlobal, W: Write>(
     match line.query {
         FleetQuery::Status { json } => {
             let ending = status_command::perform(rt, &mut map, &mut plan, tapes, json, out);
+            Ok(ending)
+        }
+        FleetQuery::Lost { agent } => {
+            let ending = lost_command::perform(rt, &mut map, &mut plan, tapes, agent, out);
             Ok(ending)
         }
         FleetQuery::Handover => {

@@ -1,7 +1,7 @@
 //! Commands that open the files of tapes.
 use crate::endings::{End, Out, Outputs, reader};
 use crate::texts::LANE;
-use mapf_cmd::{AgentFiles, NewPlan, agent_cmd, anew_cmd, handover_cmd, status_cmd};
+use mapf_cmd::{AgentFiles, NewPlan, agent_cmd, anew_cmd, handover_cmd, lost_cmd, status_cmd};
 use std::rt::Env;
 use std::test::Fail;
 use std::{env, fs, io, process};
@@ -14,14 +14,16 @@ enum Command {
     /// Makes the move, by which the tape is written.
     Agent,
     Status,
+    Lost,
     Handover,
     Anew,
 }
 
 /// The commands in their order, each with what it writes.
-static COMMANDS: [(Command, &str); 4] = [
+static COMMANDS: [(Command, &str); 5] = [
     (Command::Agent, "at 1 0 done 0\nmoving 2 0\narrived 2 0\n"),
     (Command::Status, "0 at 2 0 done 1 of 1 arrived\n"),
+    (Command::Lost, "at 2 0 done 1\n"),
     (Command::Handover, ALONE),
     (
         Command::Anew,
@@ -49,6 +51,7 @@ fn perform<R: AgentFiles + AllocGlobal>(
             agent_cmd(rt, map, plan, 0, tape, input, out, err)
         }
         Command::Status => status_cmd(rt, map, plan, tape, false, out, err),
+        Command::Lost => lost_cmd(rt, map, plan, tape, 0, out, err),
         Command::Handover => handover_cmd(rt, map, plan, tape, out, err),
         Command::Anew => anew_cmd(rt, map, plan, tape, ANEW, out, err),
     }

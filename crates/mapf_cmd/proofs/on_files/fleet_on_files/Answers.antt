@@ -20,6 +20,21 @@ returns-in-Status g c =
       c.perform-ending.ensures,
     )
 
+pub returns-in-Lost : goal.returns-in-Lost
+returns-in-Lost g c =
+    let Answers : FleetQuery → Type 0 = λ query. OnTwoFiles (IsJustOpened g.R.Reader.Read.remaining g.R.ReadFiles.was_done)
+    (λ p q r s. AnswersFleet g.R.Reader.Read.remaining g.R.Reader.Read.remaining g.R.ReadFiles.was_done g.W.Write.contents query p q r s
+    c.args.out.now c.perform-ending-in-Lost.new.out (end_of c.perform-ending-in-Lost.result)) in
+    subst Answers (sym c.in-Lost.is) (
+      c.in_ok-map.map,
+      c.perform-ending-in-Lost.new.map,
+      c.in_ok-plan.plan,
+      c.perform-ending-in-Lost.new.plan,
+      c.in_ok-map.ensures,
+      c.in_ok-plan.ensures,
+      c.perform-ending-in-Lost.ensures,
+    )
+
 pub returns-in-Handover : goal.returns-in-Handover
 returns-in-Handover g c =
     let Answers : FleetQuery → Type 0 = λ query. OnTwoFiles (IsJustOpened g.R.Reader.Read.remaining g.R.ReadFiles.was_done)
