@@ -166,7 +166,7 @@ PROOFS = [
 # The commands that run a valid plan.
 RUNNING = ("run M P E", "agent M P 0 T", "agent M P 65535 T")
 # Commands that read the tapes of all agents, of whom there are none here.
-OF_FLEETS = ("status M P no%", "handover M P no%", "anew M P no% 7", "anew M P no% 7 --without 65535")
+OF_FLEETS = ("status M P no%", "lost M P no% 65535", "handover M P no%", "anew M P no% 7", "anew M P no% 7 --without 65535")
 
 # Plans that are not valid on the map LANE: a verdict of `check` alone, and a fault of the other commands.
 PLAN_FAULTS = [(SWAP, "Swap 0 1 0"), (VERTEX, "Vertex 0 1 2 0 0"), (plan("0 1 ="), "BadStart 0"), (plan("0 0 -n"), "BadMove 0 1")]

@@ -255,6 +255,8 @@ def stopped(harness: Harness) -> Iterator[Test]:
     """What follows from the tapes of a fleet, one of which is on its way, and what of another run's."""
     folder = harness.folder({"m": LANE.encode(), "p": BEHIND.encode(), "0.tape": b"P\1\0\0\0\7\0\0\0\0", "1.tape": b""})
     files, program = (folder / "m", folder / "p", folder / "%.tape"), {"program": harness.program}
+    yield "places", mapf.lost(*files, 0, **program), (mapf.At(1, 0, 0), mapf.At(2, 0, 1))
+    yield "no such agent", raised(lambda: mapf.lost(*files, 2, **program)), ("Fault", "mapf: NoSuchAgent", "NoSuchAgent", 1)
     yield "a handover", mapf.handover(*files, **program), plan("1 0 e", "0 0 e")
     yield "a new plan", mapf.anew(*files, 9, **program), plan("2 0 =", "0 0 e", number=9)
     yield "a new plan without one", mapf.anew(*files, 9, without=0, **program), plan("0 0 e", number=9)

@@ -53,6 +53,8 @@ STATES_JSON = (
     '{"agent":1,"at":[0,0],"done":0,"of":1,"state":"waits","for":0,"until":1}\n'
     '{"root":0,"keeps":1}\n'
 )
+# Where the robot of agent 0 may be.
+PLACES = "at 1 0 done 0\nat 2 0 done 1\n"
 STATES = "0 between 1 0 2 0 done 0 of 1\n1 at 0 0 done 0 of 1 waits 0 1\nroot 0 keeps 1\n"
 
 # Words that are a command, and what it writes. After `--` each word is a word, and none an option.
@@ -190,6 +192,10 @@ COMMANDS = [
     ("status --explain -- M P J%", STATES),
     ("status M --json P J%", STATES_JSON),
     ("status M O K%", ""),
+    ("lost M P J% 0", PLACES),
+    ("lost M P J% 00 --explain", PLACES),
+    ("lost --explain -- M P J% 1", "at 0 0 done 0\n"),
+    ("lost M -- P N% 1", "at 0 0 done 0\nat 1 0 done 1\n"),
     ("handover M P J%", CUT_AT_1),
     ("handover M P J% --explain", CUT_AT_1),
     ("handover --explain -- M P J%", CUT_AT_1),
@@ -319,6 +325,11 @@ OTHER_FILES = [
     ("status P M J%", 1, "BadHeader 1"),
     ("status N P J%", 3, "OpenFailed"),
     ("status M N J%", 3, "OpenFailed"),
+    ("lost P M J% 0", 1, "BadHeader 1"),
+    ("lost N P J% 0", 3, "OpenFailed"),
+    ("lost M N J% 0", 3, "OpenFailed"),
+    ("lost M P J% 2", 1, "NoSuchAgent"),
+    ("lost M O N% 0", 1, "NoSuchAgent"),
     ("handover P M J%", 1, "BadHeader 1"),
     ("handover N P J%", 3, "OpenFailed"),
     ("handover M N J%", 3, "OpenFailed"),
@@ -527,12 +538,19 @@ BAD = [
     ("tape M P 0 K --tape new", "'--tape'", "Usage: mapf tape"),
     ("status", "<map>", "Usage: mapf status <map> <plan> <tapes>"),
     ("status M P", "<tapes>", "Usage: mapf status <map> <plan> <tapes>"),
-    ("status M P J", "'<tapes>': a name with % ", "Usage: mapf <status|handover|anew> <map> <plan> <tapes>"),
+    ("status M P J", "'<tapes>': a name with % ", "Usage: mapf <status|lost|handover|anew> <map> <plan> <tapes>"),
     ("handover M P tape0", "'<tapes>': a name with % ", "--help"),
     ("anew M P J 8", "'<tapes>': a name with % ", "--help"),
     ("check M P --scen -s", "'-s'", "Usage: mapf check"),
     ("status M P J0 J1", "'J1'", "Usage: mapf status [OPTIONS] <map> <plan> <tapes>"),
     ("status M P J% --agent 0", "'--agent'", "Usage: mapf status"),
+    ("lost", "<map>", "Usage: mapf lost <map> <plan> <tapes> <id>"),
+    ("lost M P J%", "<id>", "Usage: mapf lost <map> <plan> <tapes> <id>"),
+    ("lost M P J% 0 1", "'1'", "Usage: mapf lost [OPTIONS] <map> <plan> <tapes> <id>"),
+    ("lost M P J 0", "'<tapes>': a name with % ", "--help"),
+    ("lost M P J% 65536", "'65536' for '<id>'", "Usage: mapf lost [OPTIONS] <map> <plan> <tapes> <id>"),
+    ("lost M P J% x", "'x'", "from 0 to 65535"),
+    ("lost M P J% -1", "'-1'", "tip: a number from 0 on is wanted"),
     ("handover", "<map>", "Usage: mapf handover <map> <plan> <tapes>"),
     ("handover M P", "<tapes>", "Usage: mapf handover <map> <plan> <tapes>"),
     ("handover M P J0 J1", "'J1'", "Usage: mapf handover [OPTIONS] <map> <plan> <tapes>"),
@@ -564,7 +582,7 @@ def refusal(why: str, usage: str = "") -> bytes:
 
 # What is told in full.
 WHOLE = {
-    "": refusal("'mapf' requires a subcommand but one was not provided\n  [subcommands: map, scen, row, rows, check, bound, deps, path, cut, continues, optimal, run, agent, tape, status, handover, anew, help]", "<COMMAND>"),
+    "": refusal("'mapf' requires a subcommand but one was not provided\n  [subcommands: map, scen, row, rows, check, bound, deps, path, cut, continues, optimal, run, agent, tape, status, lost, handover, anew, help]", "<COMMAND>"),
     "zzz": refusal("unrecognized subcommand 'zzz'", "<COMMAND>"),
     # Clap's own advice, by another measure.
     "mapp_": refusal("unrecognized subcommand 'mapp_'\n\n  tip: a similar subcommand exists: 'map'", "<COMMAND>"),

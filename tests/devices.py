@@ -67,6 +67,7 @@ WRITING = [
     ("agent M P 0 T", "at 1 0 done 0\n"),
     ("status M P J%", "0 between 1 0 2 0 done 0 of 1\n1 at 0 0 done 0 of 1 waits 0 1\nroot 0 keeps 1\n"),
     ("status M P no%", "0 NoTape\n1 NoTape\n"),
+    ("lost M P J% 0", "at 1 0 done 0\nat 2 0 done 1\n"),
     ("handover M P J%", "mapf-plan 1\nnumber 7\nagents 2\nagent 1 0 e\nagent 0 0 e\n"),
     ("anew M P J% 8", "mapf-plan 1\nnumber 8\nagents 2\nagent 2 0 =\nagent 0 0 e\n"),
     ("anew M P J% 8 --without 0", "mapf-plan 1\nnumber 8\nagents 1\nagent 0 0 e\n"),
@@ -90,6 +91,7 @@ FAULTY = [
     ("run M X E --complete", "mapf: Swap 0 1 0\n"),
     ("agent M P 2 T", "mapf: NoSuchAgent\n"),
     ("status M X J%", "mapf: Swap 0 1 0\n"),
+    ("lost M P J% 2", "mapf: NoSuchAgent\n"),
     ("handover M P J0%", "mapf: BadTape 0\n"),
     ("anew M P J% 7", "mapf: SameNumber\n"),
     ("anew M P J% 8 --without 2", "mapf: NoSuchAgent\n"),
@@ -126,18 +128,18 @@ ODD_STREAMS = [
 UNREADABLE = [
     *("map D", "scen D", "row D S 0", "row C D 0", "check D P", "check M D", "check M P --scen D"),
     *("deps D P", "deps M D", "deps M D --cell 1 0", "path D P", "path M D", "cut D P 0", "cut M D 0", "continues D P Y", "continues M D Y", "continues M P D", "optimal D P Z", "optimal M D Z", "optimal M P D", "run D P E", "run M D E", "run M P D", "run M P D --complete", "agent D P 0 T", "agent M D 0 T"),
-    *("status D P J%", "status M D J%", "handover D P J%", "handover M D J%", "anew D P J% 8", "anew M D J% 8"),
+    *("status D P J%", "status M D J%", "lost D P J% 0", "lost M D J% 0", "handover D P J%", "handover M D J%", "anew D P J% 8", "anew M D J% 8"),
 ]
 # Commands with a file that is not there, and one in front of it, which is opened all the same, or behind it, which is not.
 OPENED = [
     *(("row M no 0", "M"), ("check M no", "M"), ("check M P --scen no", "M"), ("check M P --scen no", "P")),
     *(("deps M no", "M"), ("path M no", "M"), ("cut M no 0", "M"), ("continues M no Y", "M"), ("continues M P no", "P"), ("optimal M no Z", "M"), ("optimal M P no", "P"), ("run M no E", "M"), ("run M P no", "P"), ("agent M no 0 T", "M")),
-    *(("status M no J%", "M"), ("handover M no J%", "M"), ("anew M no J% 8", "M")),
+    *(("status M no J%", "M"), ("lost M no J% 0", "M"), ("handover M no J%", "M"), ("anew M no J% 8", "M")),
 ]
 NOT_OPENED = [
     *(("row no S 0", "S"), ("check no P", "P"), ("check M no --scen F", "F"), ("deps no P", "P"), ("path no P", "P"), ("cut no P 0", "P"), ("continues M no Y", "Y"), ("optimal M no Z", "Z")),
     *(("run no P E", "P"), ("run M no E", "E"), ("agent no P 0 T", "P")),
-    *(("status no P J%", "P"), ("status M no J%", "J0"), ("handover no P J%", "P"), ("handover M no J%", "J0"), ("anew no P J% 8", "P"), ("anew M no J% 8", "J0")),
+    *(("status no P J%", "P"), ("status M no J%", "J0"), ("lost no P J% 0", "P"), ("lost M no J% 0", "J0"), ("handover no P J%", "P"), ("handover M no J%", "J0"), ("anew no P J% 8", "P"), ("anew M no J% 8", "J0")),
 ]
 
 

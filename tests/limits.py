@@ -221,6 +221,8 @@ def of_a_long_run(harness: Harness, files: Mapping[str, bytes], to_and_fro: str)
         kept = "" if records % 2 else " arrived" if records == 2 * most else " ready"
         told = f"0 at 2 0 done 0 of 0 arrived\n1 {state} done {records // 2} of {most}{kept}\n"
         outcomes.append(asked(harness, f"the status of {records} records", "status M P %.tape", fleet, answer(0, told)))
+        places = "".join(f"at {count % 2} 0 done {count}\n" for count in range(records // 2, most + 1))
+        outcomes.append(asked(harness, f"places behind {records} records", "lost M P %.tape 1", fleet, answer(0, places)))
         outcomes.append(asked(harness, f"handed over with {records} records", "handover M P %.tape", fleet, cut))
         outcomes.append(asked(harness, f"begun anew with {records} records", "anew M P %.tape 8", fleet, answer(0, plan("2 0 =", left, number=8))))
     too_long = {**files, "0.tape": b"", "1.tape": tape_of(1, 2 * most) + b"P" * 10}
@@ -356,6 +358,9 @@ def of_most_tapes(harness: Harness, files: Mapping[str, bytes]) -> list[Outcome]
     at = [*(f"{agent} at {agent} 0 done 0 of 1 waits {agent + 1} 1" for agent in range(begun)), f"{begun} between {begun} 0 {begun + 1} 0 done 0 of 1"]
     at += [f"{agent} at {agent + 1} 0 done 1 of 1 arrived" for agent in range(begun + 1, count)]
     outcomes = [asked(harness, f"the status of {count} agents", "status M P %.tape", fleet, Ended(0, lines(*at, f"root {begun} keeps {begun}"), b""))]
+    outcomes.append(asked(harness, f"one of {count} agents is lost", "lost M P %.tape 0", fleet, Ended(0, lines("at 0 0 done 0"), b"")))
+    outcomes.append(asked(harness, f"another of {count} agents is lost", f"lost M P %.tape {begun}", fleet, Ended(0, lines(f"at {begun} 0 done 0", f"at {begun + 1} 0 done 1"), b"")))
+    outcomes.append(asked(harness, f"agent {count} is lost", f"lost M P %.tape {count}", files, answer(1, "NoSuchAgent")))
     outcomes.append(asked(harness, f"{count} agents are handed over", "handover M P %.tape", fleet, Ended(0, files["P"], b"")))
     for words, kept in (("", left), (" --without 0", left[1:]), (f" --without {count - 1}", left[:-1])):
         due = answer(0, plan(*kept, number=8))

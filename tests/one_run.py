@@ -1,6 +1,7 @@
 """What shows that tapes are not those of one run, by a plain model: moves that began too early, and rotations that began."""
 from typing import Callable, Iterator, NamedTuple, Optional, Sequence
 
+from random_runs import Cell
 from run_model import Agent, agents_of, courses_of
 
 
@@ -66,6 +67,18 @@ def faults_of(plan_text: str, agents: Sequence[Agent], counts: Callable[[int], b
 def has_begun_in(course: Sequence[tuple[int, tuple[int, int]]], moves: int, step: int) -> bool:
     """Whether one of so many moves of an agent is planned in a step."""
     return any(time == step + 1 for time, _ in course[1 : 1 + moves])
+
+
+def lost_places(agents: Sequence[Agent], agent: int, counts: Callable[[int], bool]) -> list[tuple[Cell, int]]:
+    """The cells in which the robot of an agent may be that is lost, each with how many moves lead there, by the tapes that count."""
+    it = agents[agent]
+    first, last = (it.done, begun(it)) if counts(agent) else (0, 0)
+    while last < len(it.needs):
+        need = it.needs[last]
+        if need and counts(need[0]) and agents[need[0]].done < need[1]:
+            break
+        last += 1
+    return [(it.path[k], k) for k in range(first, last + 1)]
 
 
 def is_one_run(plan_text: str, records: Sequence[int], counts: Callable[[int], bool]) -> bool:

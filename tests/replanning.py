@@ -14,6 +14,7 @@ from answers import MOVING, OTHER_AGENT, STANDING
 from harness import ROOT, Harness, Outcome, compared, shown, side_by_side
 from handovers import NEW, TAPES, Fleet, begun_anew, cut_at, handed_over, rest_of, stopped
 from listing import first_rotation
+from one_run import lost_places
 from plan_chains import Plan, read
 from run_model import agents_of
 from texts import BEHIND, HALL, LANE, SQUARE, SWAP, TURN, plan
@@ -80,11 +81,15 @@ def of_cut(harness: Harness, name: str, fleet: Fleet) -> Iterator[Outcome]:
 
 
 def told_of(fleet: Fleet, gone: int) -> str:
-    """The cells that an agent held, and who has another number without it."""
+    """The cells that an agent held, those in which its robot may be, and who has another number without it."""
     agents = agents_of(fleet.plan.text())
     agents[gone].records = fleet.records[gone]
     cells = "unknown NoTape" if gone in fleet.instead else " ".join(f"{x} {y}" for x, y in agents[gone].held())
-    return "".join([f"freed {cells}\n", *(f"agent {number} was {number + 1}\n" for number in range(gone, len(agents) - 1))])
+    for agent, records in enumerate(fleet.records):
+        agents[agent].records = records
+    places = lost_places(agents, gone, lambda agent: agent not in fleet.instead)
+    look = " ".join(f"{x} {y}" for (x, y), _ in places)
+    return "".join([f"freed {cells}\nlook {look}\n", *(f"agent {number} was {number + 1}\n" for number in range(gone, len(agents) - 1))])
 
 
 def of_others(harness: Harness, name: str, fleet: Fleet, gone: int) -> Iterator[Outcome]:
@@ -127,10 +132,10 @@ BOTH = (b"", b"")
 CASES = (
     Case("", LANE, BEHIND, (MOVING, b""), 0, "cut at 1\n", ""),
     Case("", LANE, plan(), (), 0, "cut at 0\n", ""),
-    Case("--without 0", LANE, plan("1 0 e"), (MOVING,), 0, f"freed 1 0 2 0\n{DRIVEN}", ""),
-    Case("--without 0", LANE, BEHIND, (MOVING + STANDING, b""), 0, f"freed 2 0\nagent 0 was 1\n{DRIVEN}", ""),
-    Case("--without 1", LANE, BEHIND, (MOVING, b"\x51" * 10), 0, f"freed unknown Damaged 0\n{DRIVEN}", ""),
-    Case("--without 1", SQUARE, TURN, (b"",) * 4, 0, f"freed 1 0\nagent 1 was 2\nagent 2 was 3\n{DRIVEN}", ""),
+    Case("--without 0", LANE, plan("1 0 e"), (MOVING,), 0, f"freed 1 0 2 0\nlook 1 0 2 0\n{DRIVEN}", ""),
+    Case("--without 0", LANE, BEHIND, (MOVING + STANDING, b""), 0, f"freed 2 0\nlook 2 0\nagent 0 was 1\n{DRIVEN}", ""),
+    Case("--without 1", LANE, BEHIND, (MOVING, b"\x51" * 10), 0, f"freed unknown Damaged 0\nlook 0 0\n{DRIVEN}", ""),
+    Case("--without 1", SQUARE, TURN, (b"",) * 4, 0, f"freed 1 0\nlook 1 0\nagent 1 was 2\nagent 2 was 3\n{DRIVEN}", ""),
     Case("", LANE, BEHIND, (MOVING, None), 1, "", "handover: 1.tape: NoTape\n"),
     Case("", LANE, BEHIND, (OTHER_AGENT, None), 1, "", "handover: 0.tape: WrongAgent 0\n"),
     Case("--without 0", LANE, BEHIND, (MOVING, MOVING), 1, "", "handover: 1.tape: WrongAgent 0\n"),
@@ -163,7 +168,7 @@ def of_a_rotation(harness: Harness) -> Iterator[Outcome]:
     whole = TURN.replace("agents 4", "agents 5") + "agent 2 0 =\n"
     files = {"M": HALL.encode(), "P": whole.encode(), **{f"{agent}.tape": b"" for agent in range(5)}}
     it = handed(harness, harness.folder(files), "--without", "4")
-    due = (0, "freed 2 0\nothers.plan can't be driven: Rotation 0 0 1 2 3. repair.py plans it anew\n", sorted(OTHERS))
+    due = (0, "freed 2 0\nlook 2 0\nothers.plan can't be driven: Rotation 0 0 1 2 3. repair.py plans it anew\n", sorted(OTHERS))
     yield compared("the others go round", it.ran, (it.status, it.out, sorted(it.files)), due)
 
 
@@ -199,7 +204,7 @@ def in_use(harness: Harness) -> Iterator[Outcome]:
             yield compared(f"{' '.join(words) or 'a cut'} while agent 1 lives", it.ran, (it.status, it.out, it.err, it.files), due)
         process.stdin.close()
     it = handed(harness, folder, "--without", "0")
-    yield compared("when it has ended", it.ran, (it.status, it.out), (0, f"freed 1 0\nagent 0 was 1\n{DRIVEN}"))
+    yield compared("when it has ended", it.ran, (it.status, it.out), (0, f"freed 1 0\nlook 1 0 2 0\nagent 0 was 1\n{DRIVEN}"))
 
 
 # Answers as the program does, and then ends a process that holds a tape.

@@ -1,12 +1,13 @@
-"""`mapf status` beside a plain model: fleets that were stopped anywhere, tapes that are lost or damaged, and rotations that block."""
+"""`mapf status` and `mapf lost` beside a plain model: fleets that were stopped anywhere, tapes that are lost or damaged, and rotations that block."""
 import functools
 import json
 import os
 import random
 from typing import Iterator, Optional
 
+from answers import answer
 from harness import Ended, Harness, Outcome, compared, shown as shown_words, side_by_side
-from one_run import faults_of, turns_of
+from one_run import faults_of, lost_places, turns_of
 from random_runs import random_map, random_plan
 from run_model import Agent, agents_of, courses_of
 from texts import LANE, BEHIND, beside, plan
@@ -107,6 +108,13 @@ class Fleet:
         """What shows that the tapes are not those of one run."""
         return faults_of(self.plan_text, self.agents, lambda agent: agent not in self.faults)
 
+    def lost(self, agent: int) -> Ended:
+        """How `mapf lost` ends of an agent."""
+        if self.run_faults():
+            return answer(1, "NotOneRun")
+        places = lost_places(self.agents, agent, lambda other: other not in self.faults)
+        return answer(0, "".join(f"at {x} {y} done {count}\n" for (x, y), count in places))
+
     @property
     def status(self) -> int:
         return 1 if self.faults or self.run_faults() else 0
@@ -150,6 +158,10 @@ def shown(harness: Harness, name: str, texts: tuple[str, str], fleet: Fleet) -> 
         due = Ended(fleet.status, text.encode(), b"")
         if ended != due:
             return Outcome(name, f"ran    {' '.join(['mapf status M P %.tape', *words])}\n    wrote  {ended}\n    due    {due}")
+    for agent in range(len(fleet.agents)):
+        ended = harness.mapf(["lost", "M", "P", "%.tape", str(agent)], folder=folder)
+        if ended != fleet.lost(agent):
+            return Outcome(name, f"ran    mapf lost M P %.tape {agent}\n    wrote  {ended}\n    due    {fleet.lost(agent)}")
     return Outcome(name, "")
 
 
@@ -161,6 +173,24 @@ def random_fleet(rng: random.Random, may_turn: bool) -> tuple[str, str, Fleet]:
     reach(rng, agents)
     faults = {agent: rng.choice(list(DAMAGES)) for agent in range(len(agents)) if rng.random() < 0.1}
     return map_text, plan_text, Fleet(plan_text, agents, faults)
+
+
+def ahead_of_tapes(harness: Harness, seed: int) -> Outcome:
+    """Each drive goes on as far as its way is free by the tapes, and stops anywhere: `mapf lost` names the cell, whether its own tape is lost or not."""
+    rng = random.Random(f"ahead {seed}")
+    map_text, plan_text, fleet = random_fleet(rng, may_turn=False)
+    folder = harness.folder({"M": map_text.encode(), "P": plan_text.encode(), **tapes_of(Fleet(plan_text, fleet.agents, {}))})
+    for agent, it in enumerate(fleet.agents):
+        furthest = lost_places(fleet.agents, agent, lambda other: True)[-1][1]
+        x, y = it.path[rng.randint(it.done, furthest)]
+        for is_lost in (False, True):
+            if is_lost:
+                (folder / f"{agent}.tape").unlink()
+            found = harness.mapf(["lost", "M", "P", "%.tape", str(agent)], folder=folder)
+            if f"at {x} {y} done " not in found.out.decode():
+                return Outcome(f"drives ahead, seed {seed}", f"robot {agent} is in {x} {y}\n    wrote  {found}")
+        (folder / f"{agent}.tape").write_bytes(tape_of(agent, it.records))
+    return Outcome(f"drives ahead, seed {seed}", "")
 
 
 def with_any_tapes(rng: random.Random, plan_text: str) -> Fleet:
@@ -180,6 +210,7 @@ def of_random_fleets(harness: Harness, seed: int) -> list[Outcome]:
     return [
         shown(harness, f"a fleet that was stopped, seed {seed}", (map_text, plan_text), fleet),
         shown(harness, f"tapes of no one run, seed {seed}", (map_text, plan_text), mixed),
+        ahead_of_tapes(harness, seed),
     ]
 
 

@@ -131,7 +131,7 @@ COURSES = [
 ]
 
 # Commands that read the tapes of all agents.
-OF_FLEETS = ("status land wrong no%", "handover land wrong no%", "anew land wrong no% 8", "anew land wrong no% 7 --without 9")
+OF_FLEETS = ("status land wrong no%", "lost land wrong no% 0", "handover land wrong no%", "anew land wrong no% 8", "anew land wrong no% 7 --without 9")
 
 COMMANDS = [
     Wrong("row land wrong 2", ROWS, ("The last row of wrong is row 1: rows count from 0.\n",)),

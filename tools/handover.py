@@ -18,9 +18,10 @@ With --without agent I is taken off the floor, and its tape may be lost. In FOLD
   others.scen a row for each of them, from where it stands to where the plan ends
 
 All lengths in the scenarios are right, as `mapf rows` certifies. Standard output says at which time
-the plan is cut (`cut at T`); with --without which cells are free now (`freed X Y`, `freed X Y U V`
-where it was between two, `freed unknown FAULT` where its tape doesn't say), which number each agent
-behind it had (`agent 4 was 5`), and whether `others.plan` can be driven.
+the plan is cut (`cut at T`). With --without it says which cells are free now (`freed X Y`, `freed
+X Y U V` where the agent was between two, `freed unknown FAULT` where its tape doesn't say); in which
+cells its robot may be, by `mapf lost` (`look X Y U V ..`); which number each agent behind it had
+(`agent 4 was 5`); and whether `others.plan` can be driven.
 
 Status 0: written. 1: a text, a plan or a tape has a fault, told in one line. 2: a bad command line.
 3: a file or a tool failed. Unless it is 0, nothing is written.
@@ -117,6 +118,16 @@ class Stopped:
         with self.blamed(), self.held_stopped():
             return mapf.anew(self.map, self.plan, self.given.tapes, self.given.number, without=self.given.without, program=self.program)
 
+    def places_of(self, agent: int) -> str:
+        """The cells in which the robot of an agent may be."""
+        with self.held_stopped():
+            try:
+                places = mapf.lost(self.map, self.plan, self.given.tapes, agent, program=self.program)
+            except mapf.Fault as fault:
+                # The tape of this agent is an older copy, or tapes of others are: nobody can say where it is.
+                return f"look unknown {fault.words}"
+        return " ".join(["look", *(f"{it.x} {it.y}" for it in places)])
+
     @contextlib.contextmanager
     def held_stopped(self) -> Iterator[None]:
         """Refuses a tape that an agent holds before tapes are read, or behind it: by what it stores meanwhile, or next, all that is written would
@@ -204,7 +215,7 @@ def go_on_without(fleet: Stopped, gone: int, folder: pathlib.Path) -> list[str]:
     """The plan of the others, and what is left of it to be planned."""
     others = fleet.others()
     tasks = tasks_of(others)
-    lines = [freed(fleet.status_of(gone)), *(f"agent {agent} was {agent + 1}" for agent in range(gone, len(tasks)))]
+    lines = [freed(fleet.status_of(gone)), fleet.places_of(gone), *(f"agent {agent} was {agent + 1}" for agent in range(gone, len(tasks)))]
     folder.mkdir(exist_ok=True)
     with draft([others], folder / "others.plan") as plan, fleet.scenario_draft(tasks, folder / "others.scen") as scenario:
         verdict = mapf.check(fleet.map, plan.path, no_rotation=True, program=fleet.program)

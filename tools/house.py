@@ -33,9 +33,9 @@ MEASURES: dict[str, tuple[str, int]] = {
     "specs-twice": ("names that two files of specs/ define", 0),
     "foreign-proofs": ("lines by which a crate cites the proofs of another", 0),
     "long-functions": (f"functions with more than {rules.MOST_LINES_OF_FUNCTION} lines", 2),
-    "many-parameters": (f"functions with more than {rules.MOST_PARAMETERS} parameters", 32),
+    "many-parameters": (f"functions with more than {rules.MOST_PARAMETERS} parameters", 34),
     "long-files": (f"files with more than {rules.MOST_LINES_OF_FILE} lines", 7),
-    "wide-lines": ("lines that are too wide", 23),
+    "wide-lines": ("lines that are too wide", 21),
     "stale-names": ("names of the code in docs/ that stand nowhere else", 0),
     "stale-promises": ("rows of docs/PROMISES.md that the sources have otherwise", 0),
 }

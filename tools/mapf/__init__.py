@@ -12,7 +12,7 @@ beside these tools, else `mapf` on the path.
 """
 from mapf.agents import Agent, Tape, tape
 from mapf.faults import Failed, Fault, FaultWords, StaleTape, StoreFailed
-from mapf.fleets import AgentStatus, Status, status
+from mapf.fleets import AgentStatus, Status, lost, status
 from mapf.handovers import anew, handover
 from mapf.plans import Continuation, Dependencies, Need, Rotation, Visit, continues, cut, deps, path, visits
 from mapf.program import Program, usual_program
@@ -26,5 +26,5 @@ __all__ = [
     *("Dependencies", "Ending", "Failed", "Fault", "FaultWords", "Heard", "May", "Moving", "Need", "Optimality"),
     *("Program", "Refused", "Reply", "Rotation", "Row", "Rows", "Said", "StaleTape", "State", "Status"),
     *("StoreFailed", "Tape", "Verdict", "Visit", "anew", "bound", "check", "complete", "continues", "cut"),
-    *("deps", "handover", "optimal", "path", "row", "rows", "run", "status", "tape", "usual_program", "visits"),
+    *("deps", "handover", "lost", "optimal", "path", "row", "rows", "run", "status", "tape", "usual_program", "visits"),
 ]

@@ -5,7 +5,8 @@ from typing import Iterator, Optional
 
 from mapf.faults import Failed, FaultWords, read_words
 from mapf.program import AnyProgram, File, files, program_at
-from mapf.replies import At, Between, State
+from mapf.program import number as as_word
+from mapf.replies import At, Between, State, read_reply
 
 # What keeps an agent: its end, its own move, nobody, another agent, or nobody knows.
 ARRIVED, MOVING, READY, WAITS, UNKNOWN = "arrived", "moving", "ready", "waits", "unknown"
@@ -102,3 +103,21 @@ def status(map: File, plan: File, tapes: File, *, program: AnyProgram = None) ->
     in place of each `%`. A tape that can't be taken is an answer, and a text that is none a
     `Fault`."""
     return read_status(program_at(program).answer("status", *files(map, plan, tapes)))
+
+
+def read_place(line: str) -> At:
+    """The place on a path that a line is."""
+    place = read_reply(line)
+    if not isinstance(place, At):
+        raise Failed(f"'{line[:80]}' is no answer of mapf")
+    return place
+
+
+def lost(
+    map: File, plan: File, tapes: File, agent: int, *, program: AnyProgram = None
+) -> tuple[At, ...]:
+    """Where the robot of an agent may be that is lost, by `mapf lost`: places on its path, each with
+    how many moves lead there. No agent of the plan may run any more. A tape may have a fault."""
+    words = files(map, plan, tapes, as_word(agent))
+    answer = program_at(program).answer("lost", *words)
+    return tuple(read_place(line) for line in answer.splitlines())
