@@ -22,10 +22,10 @@ returns g c =
       c.perform_fit.new.map,
       c.in_ok-plan.plan,
       c.perform_fit.new.plan,
-      c.in_ok-scen.scen,
+      c.in_ok-scen-in-Some.scen,
       c.perform_fit.new.scen,
       c.in_ok-map.ensures,
       c.in_ok-plan.ensures,
-      c.in_ok-scen.ensures,
+      c.in_ok-scen-in-Some.ensures,
       c.perform_fit.ensures,
     )
