@@ -226,6 +226,7 @@ CASES = [
     Case("status M X J%", answer(1, "Swap 0 1 0")),
     Case("lost M P J% 0", answer(0, "at 1 0 done 0\nat 2 0 done 1\n")),
     Case("lost M X J% 0", answer(1, "Swap 0 1 0")),
+    Case("lost M P J% 1", answer(0, "at 0 0 done 0\n")),
     Case("lost M P J% 2", answer(1, "NoSuchAgent")),
     Case("handover M P J%", answer(0, "mapf-plan 1\nnumber 7\nagents 2\nagent 1 0 e\nagent 0 0 e\n")),
     Case("handover M X J%", answer(1, "Swap 0 1 0")),
@@ -344,11 +345,15 @@ def is_refused_once(case: Case, ended: Ended) -> bool:
 
 
 def is_told_of_tapes(case: Case, failed: list[int], name: str, ended: Ended) -> bool:
-    """Whether a command that reads all tapes tells that those of some agents have this fault: an agent that is left out may have any."""
+    """Whether a command that reads all tapes tells that those of some agents have this fault: an agent that is left out may have any, and where one is lost all may."""
     words = case.words.split()
     if words[0] == "status":
         text = "".join(f"{agent} {name}\n" if agent in failed else said for agent, said in enumerate((MOVES, WAITS)))
         return ended == Ended(1, f"{text}{'' if 1 in failed else KEEPS}".encode(), b"")
+    if words[0] == "lost":
+        # A tape with a fault tells nothing: so agent 1 may have gone on behind agent 0.
+        further = "at 1 0 done 1\n" if words[-1] == "1" and 0 in failed else ""
+        return ended == answer(0, f"{case.due.out.decode()}{further}")
     blamed = [agent for agent in failed if words[-2:] != ["--without", str(agent)]]
     return ended == (answer(1, f"BadTape {blamed[0]}") if blamed else case.due)
 

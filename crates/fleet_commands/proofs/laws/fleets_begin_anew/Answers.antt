@@ -16,7 +16,8 @@ returns-clause-fleet c = λ m p table log states found turns without number tell
     let free = c.timetables.ensures.conflict_free m p table valid is in
     let unswapped = c.timetables.ensures.swap_free m p table valid is in
     let met : (i k : ℕ) (track : Track) → track_of table i ≡ Some track → k < begun_moves (states i) → IsMet (λ j. finished_moves (states j)) (need table i track k)
-    = λ i k track there less. (let far = le-max_left (begun_moves (states i)) (most_free (deeds_of log i)) in c.lost_drives.ensures.fleet table log states i k track tellable fleet there (omega (arith, less, far))) in
+    = λ i k track there less. (let far = le-max_left (begun_moves (states i)) (most_free (deeds_of log i)) in
+    c.lost_drives.ensures.fleet table log states i k track tellable fleet there (omega (arith, less, far))) in
     let closed : (step : ℕ) (agents : List ℕ) (place i : ℕ) (track : Track) → IsRotation table step agents → slice_get agents place ≡ Some i → track_of table i ≡ Some track
     → begun_moves (states i) ≤ moves_before track step
     = λ step agents place i track turning member there. c.rotations_stay_closed.ensures.fleet table log states step agents place i track tellable free turning fleet member there in
@@ -39,7 +40,8 @@ returns-clause-of_plans c = λ m p table doings states found turns without numbe
     let unswapped = c.timetables.ensures.swap_free m p table valid is in
     let tapes_of : AreTapesOf without found others = λ j records in_it there. tapes j records in_it there ∙ records-of (states j) (others j) (same j) in
     let met : (i k : ℕ) (track : Track) → track_of table i ≡ Some track → k < begun_moves (others i) → IsMet (λ j. finished_moves (others j)) (need table i track k)
-    = λ i k track there less. (let far = le-max_left (begun_moves (others i)) (most_free (deeds_of log i)) in c.lost_drives.ensures.fleet table log others i k track tellable fleet there (omega (arith, less, far))) in
+    = λ i k track there less. (let far = le-max_left (begun_moves (others i)) (most_free (deeds_of log i)) in
+    c.lost_drives.ensures.fleet table log others i k track tellable fleet there (omega (arith, less, far))) in
     let closed : (step : ℕ) (agents : List ℕ) (place i : ℕ) (track : Track) → IsRotation table step agents → slice_get agents place ≡ Some i → track_of table i ≡ Some track
     → begun_moves (others i) ≤ moves_before track step
     = λ step agents place i track turning member there. c.rotations_stay_closed.ensures.fleet table log others step agents place i track tellable free turning fleet member there in
