@@ -4,7 +4,7 @@
 _mapf() {
     local word=${COMP_WORDS[COMP_CWORD]} before=${COMP_WORDS[COMP_CWORD - 1]}
     local command='' offers='' at
-    local commands='map scen row rows check bound deps path cut continues optimal run agent tape status handover anew help'
+    local commands='map scen row rows check bound deps path cut continues optimal run agent tape status lost handover anew help'
     local faults='AgentCount AlreadyMoving AtEnd BadAct BadAgent BadEntry BadEvent BadHeader
         BadLength BadLine BadMagic BadMove BadNode BadNumber BadStart BadTable BadTag BadTape
         BadTear BadTerrain BadVersion BadWalk Broken Damaged Departs FieldCount GoalDiffers
@@ -48,6 +48,7 @@ _mapf() {
         agent) offers='--tape --explain -h --help' ;;
         tape) offers='--explain -h --help' ;;
         status) offers='--json --explain -h --help' ;;
+        lost) offers='--explain -h --help' ;;
         handover) offers='--explain -h --help' ;;
         anew) offers='--without --explain -h --help' ;;
         help) offers="$commands faults $faults" ;;
