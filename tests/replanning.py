@@ -135,6 +135,7 @@ CASES = (
     Case("--without 0", LANE, plan("1 0 e"), (MOVING,), 0, f"freed 1 0 2 0\nlook 1 0 2 0\n{DRIVEN}", ""),
     Case("--without 0", LANE, BEHIND, (MOVING + STANDING, b""), 0, f"freed 2 0\nlook 2 0\nagent 0 was 1\n{DRIVEN}", ""),
     Case("--without 1", LANE, BEHIND, (MOVING, b"\x51" * 10), 0, f"freed unknown Damaged 0\nlook 0 0\n{DRIVEN}", ""),
+    Case("--without 0", LANE, BEHIND, (b"", OTHER_AGENT), 0, f"freed 1 0\nlook unknown NotOneRun\nagent 0 was 1\n{DRIVEN}", ""),
     Case("--without 1", SQUARE, TURN, (b"",) * 4, 0, f"freed 1 0\nlook 1 0\nagent 1 was 2\nagent 2 was 3\n{DRIVEN}", ""),
     Case("", LANE, BEHIND, (MOVING, None), 1, "", "handover: 1.tape: NoTape\n"),
     Case("", LANE, BEHIND, (OTHER_AGENT, None), 1, "", "handover: 0.tape: WrongAgent 0\n"),

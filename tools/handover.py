@@ -20,8 +20,9 @@ With --without agent I is taken off the floor, and its tape may be lost. In FOLD
 All lengths in the scenarios are right, as `mapf rows` certifies. Standard output says at which time
 the plan is cut (`cut at T`). With --without it says which cells are free now (`freed X Y`, `freed
 X Y U V` where the agent was between two, `freed unknown FAULT` where its tape doesn't say); in which
-cells its robot may be, by `mapf lost` (`look X Y U V ..`); which number each agent behind it had
-(`agent 4 was 5`); and whether `others.plan` can be driven.
+cells its robot may be, by `mapf lost` (`look X Y U V ..`, or `look unknown NotOneRun` where its tape
+is an older copy); which number each agent behind it had (`agent 4 was 5`); and whether `others.plan`
+can be driven.
 
 Status 0: written. 1: a text, a plan or a tape has a fault, told in one line. 2: a bad command line.
 3: a file or a tool failed. Unless it is 0, nothing is written.
@@ -124,7 +125,7 @@ class Stopped:
             try:
                 places = mapf.lost(self.map, self.plan, self.given.tapes, agent, program=self.program)
             except mapf.Fault as fault:
-                # The tape of this agent is an older copy, or tapes of others are: nobody can say where it is.
+                # The tape of this agent is an older copy: the others have moved as if it had finished more.
                 return f"look unknown {fault.words}"
         return " ".join(["look", *(f"{it.x} {it.y}" for it in places)])
 
