@@ -17,3 +17,4 @@ pub mod MapLemmas
 pub mod LineDecisions
 pub mod Deciding
 pub mod JoiningLemmas
+pub mod BlockLemmas

@@ -1,9 +1,10 @@
 -- What a caller sees of a map, and the steps on it.
 use Rattle.std.specs.Prelude.{◌≡◌, ◌≢◌, ℕ, ◌+◌, ◌*◌, ◌<◌, ◌≤◌}
 use Rattle.std.specs.Prelude.{◌⊎◌, IsTrue, ◌&&◌, if◌then◌else◌, nat_lt, List}
-use Rattle.std.specs.Prelude.{length, Option, None, MatchOption, slice_get}
+use Rattle.std.specs.Prelude.{length, Option, Some, None, MatchOption, slice_get, slice_set}
 use Rattle.grid.specs.declared.cell.Cell.{Cell}
 use Rattle.grid.specs.declared.terrain.Terrain.{Terrain}
+use Rattle.grid.specs.declared.terrain.Terrain.TheVariants.{Void}
 use Rattle.grid.specs.Terrain.{blocked, class_of, joins}
 
 -- the terrain of the cells, row by row
@@ -30,6 +31,15 @@ abbrev pub terrain_at : Grid → Cell → Option Terrain
 terrain_at m c =
     if nat_lt c.x m.width && nat_lt c.y m.height then slice_get m.terrain
     (c.y * m.width + c.x) else None
+
+-- the map with that cell out of bounds, if it is on the map
+abbrev pub with_blocked : Grid → Cell → Option Grid
+with_blocked m c =
+    if nat_lt c.x m.width && nat_lt c.y m.height then Some (record {
+      width = m.width;
+      height = m.height;
+      terrain = slice_set m.terrain (c.y * m.width + c.x) Void;
+    }) else None
 
 -- the cell is on the map and isn't blocked
 abbrev pub IsPassable : Grid → Cell → Type 0

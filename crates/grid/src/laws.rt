@@ -1,8 +1,9 @@
 //! What the definitions of maps' texts mean: laws, which hold of all texts and need no code.
-ghost use Rattle.std.specs.Prelude.{◌≡◌, ℕ, ◌⊎◌, List};
+ghost use Rattle.std.specs.Prelude.{◌≡◌, ◌≢◌, ℕ, ◌⊎◌, List, Some};
+ghost use Rattle.grid.specs.declared.cell.Cell.{Cell};
 ghost use Rattle.grid.specs.declared.map_fault.MapFault.{MapFault};
 ghost use Rattle.text_io.specs.Reading.{IsFirstFault};
-ghost use Rattle.grid.specs.Map.{Grid, IsMap};
+ghost use Rattle.grid.specs.Map.{Grid, IsMap, IsPassable, terrain_at, with_blocked};
 ghost use Rattle.grid.specs.MapText.{MapText, canonical_map_text};
 ghost use Rattle.grid.specs.MapFault.{MapFaultAt};
 
@@ -21,4 +22,13 @@ pub fn one_reading()
 pub fn written_text()
     ensures spells { (m : Grid) → IsMap m → MapText m (canonical_map_text m) }
     ensures only { (m n : Grid) → IsMap m → MapText n (canonical_map_text m) → n ≡ m }
+{}
+
+/// Of a map with a cell blocked nobody may enter that cell, and all other cells are as they were.
+pub fn blocked_cells()
+    ensures closed { (m blocked : Grid) (c : Cell) → IsMap m
+        → with_blocked m c ≡ Some blocked → IsPassable blocked c → ⊥ }
+    ensures others { (m blocked : Grid) (c other : Cell) → IsMap m
+        → with_blocked m c ≡ Some blocked → other ≢ c
+        → terrain_at blocked other ≡ terrain_at m other }
 {}

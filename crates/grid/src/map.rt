@@ -29,7 +29,7 @@ impl Model for Map {
 }
 
 impl Map {
-    ghost use Rattle.grid.specs.Map.{IsPassable, terrain_at};
+    ghost use Rattle.grid.specs.Map.{IsPassable, terrain_at, with_blocked};
 
     /// How many cells a row has.
     pub fn width(&self) -> u32
@@ -68,6 +68,21 @@ impl Map {
             self.terrain(cell),
             Some(Terrain::Floor | Terrain::Grass | Terrain::Swamp | Terrain::Water)
         )
+    }
+
+    /// The map with this cell out of bounds (`@`), so that nobody may enter it; `None` where the
+    /// cell is off the map.
+    pub fn with_blocked(mut self, cell: Cell) -> Option<Map>
+        ensures { result ≡ with_blocked self cell }
+    {
+        let (x, y) = (u32::from(cell.x), u32::from(cell.y));
+        if x < self.width && y < self.height {
+            let at = y as usize * self.width as usize + x as usize;
+            self.characters[at] = Terrain::Void.character();
+            Some(self)
+        } else {
+            None
+        }
     }
 
     /// The map with these characters, row by row.

@@ -6,6 +6,7 @@ use Rattle.std.proofs.lemmas.Bool.{cases_lt, cases_order}
 use Rattle.std.proofs.Math.ListN.{get_or}
 use Rattle.std.proofs.lemmas.List.{get_or-set_other, get_or-set_same, get_or-take, get_or_append_left, get_or_push, length-append, length-set, length-take-le}
 use Rattle.std.proofs.lemmas.Option.{get_or_from_slice_get, same_Some, slice_get-get_or, slice_get_past, slice_get_within}
+use Rattle.text_io.specs.Laws.Lists.{set_here, set_there}
 
 pub get-left : {A : Type 0} (xs : List A) (x : A) (i : ℕ) (y : A) → slice_get xs i ≡ Some y → slice_get (xs ++ x ∷ []) i ≡ Some y
 get-left xs x i y is =
@@ -43,21 +44,6 @@ at_or_before P xs i d within before here k x less is = elim (cases_lt k i) [
 pub differ : (i j : ℕ) → (i < j) ⊎ (j < i) → i ≢ j
 differ i j (inl less) same = omega (arith, less, same)
 differ i j (inr more) same = omega (arith, more, same)
-
--- ---- a list with one in the place of another
-
-pub set_here : {A : Type 0} (xs : List A) (i : ℕ) (x : A) → i < length xs → slice_get (slice_set xs i x) i ≡ Some x
-set_here xs i x within =
-    slice_get-get_or (slice_set xs i x) i x (subst (λ n. i < n) (sym (length-set xs i x)) within) ∙ ap Some (get_or-set_same xs i x x within)
-
-pub set_there : {A : Type 0} (xs : List A) (i k : ℕ) (x : A) → k ≢ i → slice_get (slice_set xs i x) k ≡ slice_get xs k
-set_there xs i k x other = elim (cases_lt k (length xs)) [
-  | inl within ↦
-      slice_get-get_or (slice_set xs i x) k x (subst (λ n. k < n) (sym (length-set xs i x)) within)
-      ∙ ap Some (get_or-set_other xs i k x x other) ∙ sym (slice_get-get_or xs k x within)
-  | inr past ↦
-      slice_get_past (slice_set xs i x) k (subst (λ n. n ≤ k) (sym (length-set xs i x)) past) ∙ sym (slice_get_past xs k past)
-]
 
 -- ---- a list from which one is removed, and the last comes into its place
 

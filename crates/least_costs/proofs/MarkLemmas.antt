@@ -8,7 +8,8 @@ use Rattle.grid.specs.declared.cell.Cell.{Cell}
 use Rattle.least_costs.specs.declared.marks.MarkRow.{MarkRow}
 use Rattle.least_costs.specs.declared.marks.Marks.{Marks}
 use Rattle.least_costs.specs.Code.Marks.{AreSameMarks, IsPut, mark_in_row, mark_of, mark_or_none}
-use Rattle.least_costs.proofs.ListLemmas.{differ, get-last, set_here, set_there}
+use Rattle.least_costs.proofs.ListLemmas.{differ, get-last}
+use Rattle.text_io.specs.Laws.Lists.{set_here, set_there}
 use Rattle.least_costs.proofs.SideLemmas.{same_cells}
 
 abbrev pub none : ℕ

@@ -3,8 +3,7 @@
 use Rattle.std.specs.Prelude.{◌≡◌, ◌≢◌, ℕ, ℤ, pos, ◌+ℤ◌, ◌-ℤ◌, ◌+◌, ◌<◌, ◌⊎◌}
 use Rattle.std.specs.Prelude.{zero, suc, List, [], ◌∷◌, length, max, Option, MatchOption, slice_get}
 use Rattle.grid.specs.declared.cell.Cell.{Cell}
-use Rattle.grid.specs.Terrain.{blocked, class_of}
-use Rattle.grid.specs.Map.{Grid, terrain_at, IsStraightStep}
+use Rattle.grid.specs.Map.{Grid, IsStraightStep}
 use Rattle.model.specs.declared.act.Act.{Act}
 use Rattle.model.specs.declared.act.Act.TheVariants.{N, E, S, W, Wait}
 use Rattle.model.specs.declared.plan_fault.PlanFault.{PlanFault}

@@ -15,3 +15,5 @@ pub mod Runs
 pub mod Numerals
 -- parts of a line, between its spaces
 pub mod Parts
+-- a list with one element in the place of another
+pub mod Lists

@@ -8,7 +8,7 @@ use Rattle.model.specs.Timetable.{Track, Timetable, moves, track_of, IsConflictF
 use Rattle.model.specs.Dependency.{Need, need, IsMet, WaitsFor, IsRotation}
 use Rattle.model.specs.Laws.Needs.{awaits}
 use Rattle.model.specs.Laws.Rounds.{turned, round, round-length, round-is}
-use Rattle.model.specs.Laws.Waits.{last-within, waited, waited-is, rotation}
+use Rattle.model.specs.Laws.Waits.{Turning, crowd, last-within, waited, waited-is}
 
 -- Some agent has a move left whose need is met, by how many each has finished.
 pub record CanMove (tt : Timetable) (finished : ℕ → ℕ) : Type 0 where
@@ -106,12 +106,14 @@ module _ (tab : Timetable) (finished : ℕ → ℕ) (free : IsConflictFree tab)
     ]
   ]
 
-  pub stuck : (first : ℕ) → HasMoveLeft tab finished first → CanMove tab finished ⊎ HasRotation tab
-  stuck first left = elim (way first left (length tab.tracks)) [
+  -- somebody can move, or agents are about to turn
+  pub goes_or_turns : (first : ℕ) → HasMoveLeft tab finished first
+      → CanMove tab finished ⊎ Turning tab finished free unswapped
+  goes_or_turns first left = elim (way first left (length tab.tracks)) [
     | inl can ↦ inl can
     | inr far ↦
         let count = suc (length tab.tracks) in
-        inr (rotation tab finished free unswapped (round onward count first)
+        inr (crowd tab finished free unswapped (round onward count first)
         (λ place i j there next.
         let is = round-is onward count first place i there in
         let then = round-is onward count first (place + 1) j next in
@@ -127,4 +129,10 @@ module _ (tab : Timetable) (finished : ℕ → ℕ) (free : IsConflictFree tab)
         subst (λ n. n < length tab.tracks) (sym is.1)
         (slice_get_within tab.tracks (turned onward place first) left_then.0 left_then.1))
         (let size = round-length onward count first in omega (arith, size)))
+  ]
+
+  pub stuck : (first : ℕ) → HasMoveLeft tab finished first → CanMove tab finished ⊎ HasRotation tab
+  stuck first left = elim (goes_or_turns first left) [
+    | inl can ↦ inl can
+    | inr turning ↦ inr (turning.step, turning.agents, turning.turns)
   ]

@@ -280,6 +280,23 @@ module _ (tt : Timetable) (finished : ℕ → ℕ) (free : IsConflictFree tt)
   pub waited-is : (i j : ℕ) → WaitsFor tt finished i j → waited i ≡ j
   waited-is i j w = ap (waited_by i) w.is_track ∙ ap (asked_agent i) w.asks
 
+  -- the agents have their next moves in that step
+  abbrev pub AreNextIn : ℕ → List ℕ → Type 0
+  AreNextIn step agents =
+      (place i : ℕ) → slice_get agents place ≡ Some i
+      → (track : Track) × (track_of tt i ≡ Some track) × (finished i < moves track)
+      × (step_of track (finished i) ≡ step)
+
+  -- agents that are about to turn
+  pub record Turning : Type 0 where
+    pub step : ℕ
+    pub agents : List ℕ
+    pub turns : IsRotation tt step agents
+    pub next : AreNextIn step agents
+
+  abbrev rotation_of : Turning → (step : ℕ) × (turning : List ℕ) × IsRotation tt step turning
+  rotation_of t = (t.step, t.agents, t.turns)
+
   module _ (agents : List ℕ)
       (chain : (place i j : ℕ) → slice_get agents place ≡ Some i
       → slice_get agents (place + 1) ≡ Some j → WaitsFor tt finished i j) where
@@ -307,7 +324,7 @@ module _ (tt : Timetable) (finished : ℕ → ℕ) (free : IsConflictFree tt)
     -- from one that comes again
     from_circle : (p n : ℕ) → suc n + p < length agents
         → turned waited (suc n) (turned waited p head) ≡ turned waited p head
-        → (step : ℕ) × (turning : List ℕ) × IsRotation tt step turning
+        → Turning
     from_circle p n within back =
         let least = least_at n (λ k. turned waited k start) in
         let m = least.0 in
@@ -325,12 +342,26 @@ module _ (tt : Timetable) (finished : ℕ → ℕ) (free : IsConflictFree tt)
         = λ k. (let seen = comes_round waited n start back (k + m) in
         subst (λ y. x ≤ y) (sym (turned-more waited k m start ∙ seen.2)) (least.2 seen.0 seen.1)) in
         elim (first_that (suc n) (λ k. eqb (turned waited (suc k) x) x)) [
-          | inl found ↦ (
-            next_step x,
-            round waited (suc found.0) x,
-            turns waited x found.0 (eqb-true (turned waited (suc found.0) x) x found.2) each first
-                (λ k before. eqb-false (turned waited (suc k) x) x (found.3 k before)),
-          )
+          | inl found ↦
+              let back = eqb-true (turned waited (suc found.0) x) x found.2 in
+              record {
+                step = next_step x;
+                agents = round waited (suc found.0) x;
+                turns = turns waited x found.0 back each first
+                    (λ k before. eqb-false (turned waited (suc k) x) x (found.3 k before));
+                next = λ place i there.
+                    let seen = round-is waited (suc found.0) x place i there in
+                    let w = subst (λ y. WaitsFor tt finished y (turned waited (suc place) x))
+                    (sym seen.1) (each place) in
+                    let within = seen.0 in
+                    let level = in_one_step waited x found.0 back each place
+                    (omega (arith, within)) in (
+                      w.track,
+                      w.is_track,
+                      w.left,
+                      sym (next-is i w.track w.is_track) ∙ ap next_step seen.1 ∙ level,
+                    );
+              }
           | inr none ↦ absurd
               (eqb-false (turned waited (suc n) x) x (none n (omega arith)) round_again)
         ]
@@ -347,9 +378,10 @@ module _ (tt : Timetable) (finished : ℕ → ℕ) (free : IsConflictFree tt)
             (sym (seen.2 ∙ turned-more waited seen.0 p head))
             (waits-on (seen.0 + p) (omega (arith, before, within)))
 
-    pub twice : (p q i : ℕ) → p < q → slice_get agents p ≡ Some i → slice_get agents q ≡ Some i
-        → (step : ℕ) × (turning : List ℕ) × IsRotation tt step turning
-    twice p q i less first second =
+    -- agents in turn of whom one comes twice
+    pub circle : (p q i : ℕ) → p < q → slice_get agents p ≡ Some i → slice_get agents q ≡ Some i
+        → Turning
+    circle p q i less first second =
         let within = slice_get_within agents q i second in
         let count : suc (q - p - 1) + p ≡ q = omega (arith, less) in
         let at_p = same_Some i (turned waited p head)
@@ -359,16 +391,25 @@ module _ (tt : Timetable) (finished : ℕ → ℕ) (free : IsConflictFree tt)
         (turned-more waited (suc (q - p - 1)) p head ∙ ap (λ m. turned waited m head) count
         ∙ sym at_q ∙ at_p)
 
-    pub rotation : ((place i : ℕ) → slice_get agents place ≡ Some i → i < length tt.tracks)
-        → length tt.tracks < length agents
+    pub twice : (p q i : ℕ) → p < q → slice_get agents p ≡ Some i → slice_get agents q ≡ Some i
         → (step : ℕ) × (turning : List ℕ) × IsRotation tt step turning
-    rotation there long =
+    twice p q i less first second = rotation_of (circle p q i less first second)
+
+    -- more agents than there are
+    pub crowd : ((place i : ℕ) → slice_get agents place ≡ Some i → i < length tt.tracks)
+        → length tt.tracks < length agents → Turning
+    crowd there long =
         let alike = two_alike (length tt.tracks) (λ p. turned waited p head)
         (λ p most. there p (turned waited p head)
         (on_the_way p (omega (arith, most, long)))) in
         let less = alike.2 in
         let most = alike.3 in
-        twice alike.0 alike.1 (turned waited alike.0 head) less
+        circle alike.0 alike.1 (turned waited alike.0 head) less
         (on_the_way alike.0 (omega (arith, less, most, long)))
         (on_the_way alike.1 (omega (arith, most, long)) ∙ ap {A = ℕ} {B = Option ℕ} (λ y. Some y)
         (sym alike.4))
+
+    pub rotation : ((place i : ℕ) → slice_get agents place ≡ Some i → i < length tt.tracks)
+        → length tt.tracks < length agents
+        → (step : ℕ) × (turning : List ℕ) × IsRotation tt step turning
+    rotation there long = rotation_of (crowd there long)

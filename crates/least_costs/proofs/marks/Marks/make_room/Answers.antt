@@ -4,7 +4,7 @@ use Rattle.std.specs.Prelude.{slice_get}
 use Rattle.std.proofs.lemmas.Option.{same_Some, slice_get_read}
 use Rattle.least_costs.specs.declared.marks.MarkRow.{MarkRow}
 use Rattle.least_costs.specs.Code.Marks.{mark_or_none}
-use Rattle.least_costs.proofs.ListLemmas.{set_here}
+use Rattle.text_io.specs.Laws.Lists.{set_here}
 use Rattle.least_costs.proofs.MarkLemmas.{resized, same_row}
 use Rattle.least_costs.proofs.marks.Marks.make_room.Goals as goal
 
