@@ -68,7 +68,13 @@ file_command name =
 -- the commands over maps and scenarios
 abbrev pub text_usages : List Usage
 text_usages =
-    file_command (codes "map")
+    record {
+      name = codes "map";
+      required = codes "file" ∷ [];
+      options = [];
+      cells = codes "block" ∷ [];
+      flags = explain_flag ∷ [];
+    }
     ∷ file_command (codes "scen")
     ∷ record {
       name = codes "row";
@@ -319,6 +325,7 @@ abbrev pub HasValues : Text → List Row → Type 0
 HasValues name rows =
     (name ≡ codes "row" → GivesNumberBelow (2 ^ 32) (codes "row") rows)
     × (name ≡ codes "agent" → GivesNumberBelow (2 ^ 16) (codes "id") rows)
+    × (name ≡ codes "map" → GivesCells (codes "block") rows)
     × (name ≡ codes "deps" → GivesCells (codes "cell") rows)
     × (name ≡ codes "path" → GivesNumbers (2 ^ 16) (codes "agent") rows)
     × (name ≡ codes "agent" → GivesClaim (codes "tape") rows)
@@ -368,7 +375,8 @@ AsksToExplain rows explain = explain ≡ true ↔ IsFlagGiven explain_flag rows
 
 -- the command with this name asks this of a map or a scenario
 abbrev pub IsTextQuery : Text → List Row → TextQuery → Type 0
-IsTextQuery name rows text_query.Map = name ≡ codes "map"
+IsTextQuery name rows (text_query.Map block) =
+    (name ≡ codes "map") × MayGiveCell (codes "block") rows block
 IsTextQuery name rows text_query.Scen = name ≡ codes "scen"
 
 -- the command with this name asks this of a plan, by the values that the rows give

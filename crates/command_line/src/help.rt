@@ -157,6 +157,14 @@ For more information, try '--help'.
 ";
 
 /// What is said of words that are no cell.
+pub(crate) const NO_BLOCK: &str =
+    "error: invalid value for '--block <X> <Y>': two numbers from 0 to 65535 are wanted, in digits alone
+
+Usage: mapf map [OPTIONS] <file>
+
+For more information, try '--help'.
+";
+
 pub(crate) const NO_CELL: &str =
     "error: invalid value for '--cell <X> <Y>': two numbers from 0 to 65535 are wanted, in digits alone
 

@@ -119,7 +119,7 @@ fn read_deps(alloc: Global, given: &ArgMatches<'_>) -> Result<Line, LineFault>
         → e ≡ LineFault.OutOfMemory) }
     ensures refusal { IfErr result IsRefusal }
 {
-    let cell = optional_cell(alloc, given)?;
+    let cell = optional_cell(alloc, given, "cell", help::NO_CELL)?;
     read_query(alloc, given, PlanQuery::Deps { cell })
 }
 

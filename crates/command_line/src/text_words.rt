@@ -8,18 +8,19 @@ ghost use Rattle.command_line.specs.Code.Parts.{HasWords, IsOther, IsRefusal};
 ghost use Rattle.command_line.specs.Code.Parts.{shape_of_text, shapes_of};
 
 use crate::LineFault;
-use crate::help::Word::{Flag, Named, Required};
+use crate::help::Word::{Cell as CellOption, Flag, Named, Required};
 use crate::help::{self, CommandText, EXPLAIN};
 use crate::lines::{Line, RowsLine};
-use crate::words::{has_flag, long_number, optional_long_number, word};
+use crate::words::{has_flag, long_number, optional_cell, optional_long_number, word};
 use clap::ArgMatches;
+use grid::Cell;
 use std::alloc::Global;
 
 /// What is asked of a map or a scenario, for which no other file is read.
 #[derive(Clone, Copy, Debug, PartialEq, Eq)]
 pub enum TextQuery {
-    /// The canonical form of a map.
-    Map,
+    /// The canonical form of a map, perhaps with a cell out of bounds.
+    Map { block: Option<Cell> },
     /// The canonical form of a scenario.
     Scen,
 }
@@ -47,7 +48,7 @@ pub(crate) fn read_text_command(
     ensures refusal { IfSome result (λ r. IfErr r IsRefusal) }
 {
     match name {
-        "map" => Some(read_text(alloc, given, TextQuery::Map)),
+        "map" => Some(read_map(alloc, given)),
         "scen" => Some(read_text(alloc, given, TextQuery::Scen)),
         "row" => Some(read_row(alloc, given)),
         "rows" => Some(read_rows(alloc, given)),
@@ -69,6 +70,18 @@ fn read_text(alloc: Global, given: &ArgMatches<'_>, query: TextQuery) -> Result<
         file: word(alloc, given, "file")?,
         query,
     })
+}
+
+/// Reads `map` by the words that it was given.
+fn read_map(alloc: Global, given: &ArgMatches<'_>) -> Result<Line, LineFault>
+    ensures ok { IfOk result (IsCommand (codes "map") (rows_of (found_of given.now))) }
+    ensures err { IfErr result (λ e. HasWords (codes "map") (rows_of (found_of given.now))
+        → HasValues (codes "map") (rows_of (found_of given.now))
+        → e ≡ LineFault.OutOfMemory) }
+    ensures refusal { IfErr result IsRefusal }
+{
+    let block = optional_cell(alloc, given, "block", help::NO_BLOCK)?;
+    read_text(alloc, given, TextQuery::Map { block })
 }
 
 /// Reads `row` by the words that it was given.
@@ -110,17 +123,25 @@ const TEXT_COMMANDS: &[CommandText<'static>] = &[
         about: "Reads a map and writes it in canonical form",
         after_help: "\
 Standard output is the canonical text of the map. The file - is standard input.
+With --block the cell is out of bounds in what is written (@), so that no plan
+may enter it: as where a robot broke down and stays. To block more cells, give
+the text that is written to the command again.
 
 Status:
   0  the text is written
-  1  the map has a fault: one line on standard error, as `mapf: ShortRow 6`
+  1  the map has a fault, or no such cell: one line on standard error, as
+     `mapf: ShortRow 6`
   2  a bad command line
   3  the file can't be opened (--explain says why), a device failed, or memory
      was refused
 
 Example:
   mapf map examples/corner.map",
-        words: &[Required("file", "The file of the map"), EXPLAIN],
+        words: &[
+            Required("file", "The file of the map"),
+            CellOption("block", "Writes the map with this cell out of bounds"),
+            EXPLAIN,
+        ],
     },
     CommandText {
         name: "scen",

@@ -254,21 +254,23 @@ fn claim_of(word: &str) -> Option<TapeClaim>
     }
 }
 
-/// The cell that was given, if one was.
+/// The cell that was given for an option, if one was; `text` says what is wanted.
 pub(crate) fn optional_cell(
     alloc: Global,
     given: &ArgMatches<'_>,
+    name: &str,
+    text: &str,
 ) -> Result<Option<Cell>, LineFault>
-    ensures ok { IfOk result (MayGiveCell (codes "cell") (rows_of (found_of given.now))) }
-    ensures none { OnErr result (GivesCells (codes "cell") (rows_of (found_of given.now)) → ⊥) }
+    ensures ok { IfOk result (MayGiveCell name.now (rows_of (found_of given.now))) }
+    ensures none { OnErr result (GivesCells name.now (rows_of (found_of given.now)) → ⊥) }
     ensures err { IfErr result IsRefusal }
 {
-    let Some(values) = given.get_strs("cell") else {
+    let Some(values) = given.get_strs(name) else {
         return Ok(None);
     };
     match cell_of(values) {
         Some(cell) => Ok(Some(cell)),
-        None => Err(LineFault::bad_command(alloc, help::NO_CELL)),
+        None => Err(LineFault::bad_command(alloc, text)),
     }
 }
 

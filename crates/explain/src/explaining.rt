@@ -9,7 +9,7 @@ use crate::devices::explain_device;
 use crate::files::NamedFile;
 use crate::page::{Page, Style};
 use crate::plan_faults::explain_plan;
-use crate::row_words::{no_such_agent, no_such_row, size_differs};
+use crate::row_words::{no_such_agent, no_such_cell, no_such_row, size_differs};
 use crate::table::put_sentence;
 use crate::tapes::explain_tape;
 use crate::texts::explain_text;
@@ -82,6 +82,7 @@ fn put_explanation<R: Files>(rt: &R, files: &[NamedFile<'_>], told: &Told<'_>, p
 fn put_fault<R: Files>(rt: &R, files: &[NamedFile<'_>], told: &Told<'_>, page: &mut Page) {
     match told.fault {
         FaultName::NoSuchRow => no_such_row(rt, files, page),
+        FaultName::NoSuchCell => no_such_cell(rt, files, page),
         FaultName::SizeDiffers => size_differs(rt, files, told, page),
         FaultName::NoSuchAgent if told.origin != Origin::Proof => no_such_agent(rt, files, page),
         FaultName::BadStart | FaultName::BadMove | FaultName::Vertex | FaultName::Swap => {

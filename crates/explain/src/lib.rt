@@ -11,6 +11,7 @@ mod files;
 mod help;
 mod lines;
 mod map_words;
+mod message_faults;
 mod other_faults;
 mod page;
 mod picture;

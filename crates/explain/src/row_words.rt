@@ -1,4 +1,4 @@
-//! The faults of `mapf row`, and of agents that there aren't.
+//! The faults of `mapf row`, and of agents and cells that there aren't.
 use crate::files::{NamedFile, file_of, shown_path};
 use crate::lines::Line;
 use crate::map_words::{Size, map_size};
@@ -120,6 +120,26 @@ fn put_agents(path: &str, count: Option<u64>, page: &mut Page) {
         }
         None => page.fill(
             "{} has no agent with this number. Agents count from 0.\n",
+            &[path],
+        ),
+    }
+}
+
+/// Says how large a map is.
+pub(crate) fn no_such_cell<R: Files>(rt: &R, files: &[NamedFile<'_>], page: &mut Page) {
+    if let Some(map) = file_of(files, Origin::Map) {
+        put_size(shown_path(map), map_size(rt, map.path), page);
+    }
+}
+
+fn put_size(path: &str, size: Option<Size>, page: &mut Page) {
+    match size {
+        Some(Size { width, height }) => {
+            page.fill("{} has width ", &[path]);
+            page.fill("{} and height {}: columns and rows count from 0.\n", &[width, height]);
+        }
+        None => page.fill(
+            "{} has no cell with these numbers. Columns and rows count from 0.\n",
             &[path],
         ),
     }

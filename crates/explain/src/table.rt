@@ -1,9 +1,7 @@
 //! All faults and refusals, with a sentence and, where texts show it, a smallest example.
 use crate::files::format_name;
-use crate::other_faults::{
-    command_entries, course_entries, departing_entries, fit_entries, message_entries,
-    reply_entries, signed_entries, tape_entries,
-};
+use crate::message_faults::{message_entries, reply_entries, signed_entries, tape_entries};
+use crate::other_faults::{command_entries, course_entries, departing_entries, fit_entries};
 use crate::page::Page;
 use crate::text_faults::{
     event_entries, map_entries, plan_entries, proof_entries, scenario_entries,

@@ -113,8 +113,10 @@ CheckOn remaining WasDone contents (Some scen) terms old new end =
 abbrev pub AnswersText
     : {R W : Type 0} → (R → Option (List ℕ)) → (W → Option (List ℕ)) → TextQuery
     → Counted R → Counted R → Counted W → Counted W → End → Type 0
-AnswersText text_left contents text_query.Map a b old new end =
+AnswersText text_left contents (text_query.Map None) a b old new end =
     text_answers.RewritesMap text_left contents a b old new end
+AnswersText text_left contents (text_query.Map (Some cell)) a b old new end =
+    text_answers.BlocksCell text_left contents cell a b old new end
 AnswersText text_left contents text_query.Scen a b old new end =
     text_answers.RewritesScen text_left contents a b old new end
 

@@ -23,5 +23,5 @@ pub use proof_commands::optimal_cmd;
 pub use robot::{TalkFault, Talker, talk};
 pub use run_commands::run_cmd;
 pub use tape_claim::{LockFile, TapeClaim};
-pub use text_commands::{RowsAsked, map_cmd, row_cmd, rows_cmd, scen_cmd};
+pub use text_commands::{RowsAsked, block_cmd, map_cmd, row_cmd, rows_cmd, scen_cmd};
 pub use unperformed::refuse;

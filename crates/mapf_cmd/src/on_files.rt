@@ -133,7 +133,10 @@ fn answer_text<R: Read, W: Write>(
         (end_of result) }
 {
     match query {
-        TextQuery::Map => text_commands::map_command::perform(alloc, text, out),
+        TextQuery::Map { block: None } => text_commands::map_command::perform(alloc, text, out),
+        TextQuery::Map { block: Some(cell) } => {
+            text_commands::block_command::perform(alloc, text, cell, out)
+        }
         TextQuery::Scen => text_commands::scen_command::perform(alloc, text, out),
     }
 }

@@ -4,7 +4,8 @@
 
 -- the words of why a row has no answer
 pub mod FaultWords
--- `mapf map` and `mapf scen`: what a command does that reads a text and writes it in canonical form
+-- `mapf map` and `mapf scen`: what a command does that reads a text and writes it in canonical
+-- form, or a map with a cell out of bounds
 pub mod TextQueries
 -- which exit status the verdict on a row ends with
 pub mod RowStatus

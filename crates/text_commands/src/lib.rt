@@ -1,6 +1,7 @@
 //! The commands over maps and scenarios.
 #![tactic(auto)]
 
+pub mod block_command;
 mod judge;
 mod last_line;
 pub mod map_command;
@@ -14,6 +15,7 @@ mod rows_fault;
 pub mod scen_command;
 mod tally;
 
+pub use block_command::block_cmd;
 pub use map_command::map_cmd;
 pub use row_command::row_cmd;
 pub use rows_command::{RowsAsked, rows_cmd};

@@ -3,9 +3,9 @@ use crate::endings::{End, Out, Outputs, reader};
 use crate::texts::{BEHIND, CORNER, EVENTS, LANE, REPLIES, ROW, TASKS};
 use grid::Cell;
 use mapf_cmd::{
-    BoundForm, CheckTerms, RowsAsked, bound_cmd, check_cmd, check_fit_cmd, continues_cmd, cut_cmd,
-    deps_cell_cmd, deps_cmd, map_cmd, optimal_cmd, path_cmd, row_cmd, rows_cmd, run_cmd, scen_cmd,
-    tape_cmd,
+    BoundForm, CheckTerms, RowsAsked, block_cmd, bound_cmd, check_cmd, check_fit_cmd, continues_cmd,
+    cut_cmd, deps_cell_cmd, deps_cmd, map_cmd, optimal_cmd, path_cmd, row_cmd, rows_cmd, run_cmd,
+    scen_cmd, tape_cmd,
 };
 use std::alloc::Global;
 
@@ -13,6 +13,8 @@ use std::alloc::Global;
 #[derive(Clone, Copy, Debug)]
 enum Command {
     Map,
+    /// Writes the corner with a cell out of bounds.
+    Block,
     Scen,
     Row,
     Rows,
@@ -35,8 +37,12 @@ enum Command {
 const ACCEPTED: &str = "accepted agents 2 cost 2 makespan 1\n";
 
 /// Each command with what it writes.
-static COMMANDS: [(Command, &str); 15] = [
+static COMMANDS: [(Command, &str); 16] = [
     (Command::Map, CORNER),
+    (
+        Command::Block,
+        "type octile\nheight 2\nwidth 3\nmap\n..@\n.@.\n",
+    ),
     (Command::Scen, ROW),
     (Command::Row, "shortest 2 0 listed 2.00000000 agrees\n"),
     (
@@ -89,6 +95,7 @@ fn perform(alloc: Global, command: Command, out: &mut Out<'_>, err: &mut Out<'_>
     let (map, scen) = (&mut reader(CORNER), &mut reader(ROW));
     match command {
         Command::Map => map_cmd(alloc, map, out, err),
+        Command::Block => block_cmd(alloc, map, Cell { x: 2, y: 0 }, out, err),
         Command::Scen => scen_cmd(alloc, scen, out, err),
         Command::Row => row_cmd(alloc, map, scen, 0, out, err),
         Command::Rows => rows_cmd(alloc, map, scen, &ALL_ROWS, out, err),

@@ -1,20 +1,20 @@
 -- The values are those of the rows.
-use Rattle.std.proofs.Common.{codes, ◌∙◌, map, inl, inr, sym}
+use Rattle.std.proofs.Common.{◌∙◌, map, inl, inr, sym}
 use Rattle.clap.specs.Words.{found_of}
 use Rattle.clap.proofs.WalkLemmas.{raw_values-rows}
 use Rattle.command_line.proofs.words.optional_cell.Goals as goal
 
 pub returns-in_default-clause-ok : goal.returns-in_default-clause-ok
-returns-in_default-clause-ok c = sym (c.in_default.ensures ∙ raw_values-rows (found_of c.args.given.now) (codes "cell"))
+returns-in_default-clause-ok c = sym (c.in_default.ensures ∙ raw_values-rows (found_of c.args.given.now) c.args.name.now)
 
 pub returns-in-Some-cell_of-clause-ok : goal.returns-in-Some-cell_of-clause-ok
 returns-in-Some-cell_of-clause-ok c =
-    let given = c.in-Some.ensures ∙ raw_values-rows (found_of c.args.given.now) (codes "cell") in
+    let given = c.in-Some.ensures ∙ raw_values-rows (found_of c.args.given.now) c.args.name.now in
     (map (λ v. v.now) c.in-Some.values.now, sym given, c.in-Some-cell_of.ensures)
 
 pub returns-in-None-clause-none : goal.returns-in-None-clause-none
 returns-in-None-clause-none c = λ gives.
-    let given = c.in-Some.ensures ∙ raw_values-rows (found_of c.args.given.now) (codes "cell") in
+    let given = c.in-Some.ensures ∙ raw_values-rows (found_of c.args.given.now) c.args.name.now in
     let cell = gives (map (λ v. v.now) c.in-Some.values.now) (sym given) in
     c.in-None.ensures cell.0 cell.1 cell.2 cell.3
 
