@@ -1,12 +1,10 @@
 -- The plan of what is left of a valid plan is valid, where each begun move has its need met.
-use Rattle.std.proofs.Common.{◌≡◌, ◌≢◌, ◌∙◌, ℕ, zero, suc, ◌+◌, ◌<◌, ◌≤◌, List, [], ◌∷◌, length, get_or, true, false, Some, None, inl, inr, refl, ap, sym, subst, arith}
+use Rattle.std.proofs.Common.{◌≡◌, ◌≢◌, ◌∙◌, ℕ, zero, suc, ◌+◌, ◌<◌, ◌≤◌, List, [], ◌∷◌, length, get_or, true, Some, None, inl, inr, refl, ap, sym, subst, arith}
 use Rattle.std.specs.Prelude.{if◌then◌else◌, nat_lt, Option, MatchOption, slice_get}
 use Rattle.std.proofs.lemmas.Bool.{cases_lt, cond-true, cond-false, le-ltb, lt-ltb}
 use Rattle.std.proofs.lemmas.Option.{none-some, same_Some}
 use Rattle.grid.specs.declared.cell.Cell.{Cell}
-use Rattle.grid.specs.declared.terrain.Terrain.{Terrain}
-use Rattle.grid.specs.Map.{Grid, IsPassable, terrain_at}
-use Rattle.grid.specs.Terrain.{blocked, land, swamp, water, class_of, joins, Class}
+use Rattle.grid.specs.Map.{Grid, IsPassable}
 use Rattle.model.specs.declared.act.Act.{Act}
 use Rattle.model.specs.declared.act.Act.TheVariants.{N, E, S, W, Wait}
 use Rattle.model.specs.declared.plan_fault.PlanFault.TheVariants.{BadStart, BadMove, Vertex, Swap, OutOfMemory}
@@ -14,15 +12,16 @@ use Rattle.model.specs.Dependency.{IsMet, Need, moves_in, moves_to, need}
 use Rattle.model.specs.Laws.Needs.{stands-from}
 use Rattle.model.specs.Laws.Options.{some-found}
 use Rattle.model.specs.Laws.Places.{same_place}
-use Rattle.model.specs.Laws.Tracks.{length-path, moves-leave, moves-most, moves-rise, moving_step, step-of_move, visit_time}
+use Rattle.model.specs.Laws.Tracks.{length-path, moves-leave, moves-most, moves-rise, moving_step, step-of_move}
 use Rattle.model.specs.Laws.Waits.{moves-at}
-use Rattle.model.specs.Plan.{Course, HasPlanFault, IsBadMove, IsLegal, IsTrackOf, IsValid, Plan, Position, course_of, moved, position_after, position_at, position_of}
+use Rattle.model.specs.Plan.{Course, HasPlanFault, IsBadMove, IsLegal, IsTrackOf, IsValid, Plan, course_of, moved, position_at, position_of}
 use Rattle.model.specs.Rules.{path_cell}
 use Rattle.model.specs.Safety.{HaveNeedsMet, MayBeIn}
 use Rattle.model.specs.Timetable.{Track, Timetable, IsSwapFree, cell_at, moves, moves_before, path, step_of, track_of}
 use Rattle.continuing.specs.Adding.{changes_cell}
 use Rattle.fleet_commands.specs.LeftPlan.{left_course}
-use Rattle.fleet_commands.proofs.LeftWalks.{after-start, leads-away, left-goes, left-waits, position-next}
+use Rattle.fleet_commands.proofs.LeftWalks.{leads-away, left-goes, left-waits, position-next}
+use Rattle.fleet_commands.proofs.PassableWays.{legal-on, passable-path}
 use Rattle.fleet_commands.proofs.RestLemmas.{path-at, step-either}
 
 -- ---- when moves are made
@@ -60,25 +59,6 @@ act-there : (acts : List Act) (t : ℕ) (a : Act) → slice_get acts t ≡ Some 
 act-there [] t a there = absurd (none-some a there)
 act-there (b ∷ acts) zero a there = same_Some b a there
 act-there (b ∷ acts) (suc t) a there = act-there acts t a there
-
--- a step that leads to another place has an act that is no wait
-step-moves : (p : Position) (acts : List Act) (t : ℕ) → position_after p acts t ≢ position_after p acts (suc t) → (a : Act) × (slice_get acts t ≡ Some a) × (a ≢ Wait)
-step-moves p [] t leaves = absurd (leaves refl)
-step-moves p (a ∷ acts) zero leaves = (a, refl, λ waits. leaves (sym (after-start (moved a p) acts ∙ ap (λ b. moved b p) waits)))
-step-moves p (a ∷ acts) (suc t) leaves = step-moves (moved a p) acts t leaves
-
-passable-if : (o : Option Terrain) → ((MatchOption o ⊥ (λ terrain. class_of terrain ≢ blocked) → ⊥) → ⊥) → MatchOption o ⊥ (λ terrain. class_of terrain ≢ blocked)
-passable-if None twice = absurd (twice (λ never. never))
-passable-if (Some terrain) twice = λ is. twice (λ other. other is)
-
-not-blocked : (c d : Class) → joins c d ≡ true → d ≢ blocked
-not-blocked c d joined is = by c (ap (joins c) (sym is) ∙ joined)
-  where
-    by : (c : Class) → joins c blocked ≡ true → ⊥
-    by land e = let bad : false ≡ true = e in cc
-    by swamp e = let bad : false ≡ true = e in cc
-    by water e = let bad : false ≡ true = e in cc
-    by blocked e = let bad : false ≡ true = e in cc
 
 module _ (m : Grid) (p : Plan) (table : Timetable) (valid : IsValid m p) (unswapped : IsSwapFree table) (begun finished : ℕ → ℕ) (first : ℕ)
     (met : HaveNeedsMet table begun finished) (most : (i : ℕ) (track : Track) → track_of table i ≡ Some track → begun i ≤ moves track)
@@ -210,55 +190,6 @@ module _ (m : Grid) (p : Plan) (table : Timetable) (valid : IsValid m p) (unswap
       = same_place (path_cell of.track (gone t i)) (path_cell other.track (gone t j)) (sym (place-at i k of t) ∙ same ∙ place-at j l other t) in
       apart (gone t) (gone t) i j (path_cell other.track (gone t j)) (gone-met t) (subst (MayBeIn table (gone t) (gone t) i) cell (may-be i k of t)) (may-be j l other t)
 
-  -- ---- the old plan is valid
-
-  module _ (i : ℕ) (course : Course) (track : Track) (is_course : course_of p i ≡ Some course) (tracked : IsTrackOf course track) where
-    -- a step that leads to another cell is legal
-    legal-on : (t : ℕ) → position_of (cell_at track t) ≢ position_of (cell_at track (suc t))
-        → (IsLegal m (position_of (cell_at track t)) (position_of (cell_at track (suc t))) → ⊥) → ⊥
-    legal-on t leaves illegal =
-        let from = tracked.places t in
-        let to = tracked.places (suc t) in
-        let one : suc t ≡ t + 1 = omega arith in
-        let act = step-moves (position_of course.start) course.acts t (λ e. leaves (from ∙ e ∙ sym to)) in
-        let bad : IsBadMove m course t
-        = subst (λ o. MatchOption o ⊥ (λ a. (a ≢ Wait) × (IsLegal m (position_at course t) (position_at course (t + 1)) → ⊥))) (sym act.1) (
-          act.2,
-          λ legal. illegal (subst (IsLegal m (position_of (cell_at track t))) (sym (to ∙ ap (position_at course) one)) (subst (λ q. IsLegal m q (position_at course (t + 1)))
-              (sym from) legal)),
-        ) in
-        valid (BadMove i t) (subst (λ o. MatchOption o ⊥ (λ k. IsBadMove m k t)) (sym is_course) bad)
-
-    legal-end : (u v : Position) (c : Cell) → v ≡ position_of c → IsLegal m u v → IsPassable m c
-    legal-end u v c at legal =
-        let same : legal.v ≡ c = same_place legal.v c (legal.is_to ∙ at) in
-        subst (IsPassable m) same (by (terrain_at m legal.u) (terrain_at m legal.v) legal.step.joined)
-      where
-        by : (a b : Option Terrain) → MatchOption a ⊥ (λ t. MatchOption b ⊥ (λ u. joins (class_of t) (class_of u) ≡ true)) → MatchOption b ⊥ (λ terrain. class_of terrain ≢ blocked)
-        by None b never = absurd never
-        by (Some t) None never = absurd never
-        by (Some t) (Some u) joined = not-blocked (class_of t) (class_of u) joined
-
-    -- it goes through passable cells alone
-    passable-at : (t : ℕ) → IsPassable m (cell_at track t)
-    passable-at zero =
-        let start : cell_at track 0 ≡ course.start = same_place (cell_at track 0) course.start (tracked.places 0 ∙ after-start (position_of course.start) course.acts) in
-        subst (IsPassable m) (sym start)
-        (passable-if (terrain_at m course.start) (λ bad. valid (BadStart i) (subst (λ o. MatchOption o ⊥ (λ k. IsPassable m k.start → ⊥)) (sym is_course) bad)))
-    passable-at (suc t) = elim (step-either track t) [
-      | inl stays ↦ subst (IsPassable m) stays.0 (passable-at t)
-      | inr goes ↦
-          passable-if (terrain_at m (cell_at track (suc t)))
-          (λ bad. legal-on t (λ e. goes.0 (same_place (cell_at track t) (cell_at track (suc t)) e))
-          (λ legal. bad (legal-end (position_of (cell_at track t)) (position_of (cell_at track (suc t))) (cell_at track (suc t)) refl legal)))
-    ]
-
-    passable-path : (n : ℕ) → n ≤ moves track → IsPassable m (path_cell track n)
-    passable-path n within =
-        let long = length-path track.start track.later in
-        let time = visit_time track.start track.later n (omega (arith, within, long)) in
-        subst (IsPassable m) (sym (ap (path_cell track) (sym time.1) ∙ path-at track time.0)) (passable-at time.0)
-
   -- ---- the new plan
 
   module _ (left : Plan) (number : ℕ → ℕ) (each : (j : ℕ) (k : Course) → course_of left j ≡ Some k → (i : ℕ) × IsLeftOf i k × (number i ≡ j)) where
@@ -267,7 +198,7 @@ module _ (m : Grid) (p : Plan) (table : Timetable) (valid : IsValid m p) (unswap
         let found = some-found (course_of left j) (λ k. IsPassable m k.start → ⊥) fault in
         let old = each j found.0 found.1 in
         let of = old.1 in
-        found.2 (subst (λ k. IsPassable m k.start) (sym of.left) (passable-path old.0 of.course of.track of.is_course of.tracked (begun old.0) (most old.0 of.track of.is_track)))
+        found.2 (subst (λ k. IsPassable m k.start) (sym of.left) (passable-path m p valid old.0 of.course of.track of.is_course of.tracked (begun old.0) (most old.0 of.track of.is_track)))
 
     good-move : (j step : ℕ) → HasPlanFault m left (BadMove j step) → ⊥
     good-move j step fault =
@@ -280,7 +211,7 @@ module _ (m : Grid) (p : Plan) (table : Timetable) (valid : IsValid m p) (unswap
         let next = position-next (position_of k.start) k.acts step ∙ ap (λ a. moved a (position_at k step)) (act-there k.acts step act.0 act.1) in
         let leaves : position_at k step ≢ position_at k (suc step) = λ e. leads-away act.0 (position_at k step) (changes act.0 act.2.0) (sym next ∙ sym e) in
         let on = moves-on old.0 k of step leaves in
-        legal-on old.0 of.course of.track of.is_course of.tracked (first + step) (λ e. leaves (on.0 ∙ e ∙ sym on.1))
+        legal-on m p valid old.0 of.course of.track of.is_course of.tracked (first + step) (λ e. leaves (on.0 ∙ e ∙ sym on.1))
         (λ legal. act.2.1 (subst (IsLegal m (position_at k step)) (sym (ap (position_at k) one ∙ on.1)) (subst (λ q. IsLegal m q (position_of (cell_at of.track (suc (first + step)))))
         (sym on.0) legal)))
 

@@ -12,8 +12,10 @@ pub mod PlaceLemmas
 pub mod LeftWalks
 pub mod RestLemmas
 pub mod LeftIndexes
+pub mod PassableWays
 pub mod LeftValid
 pub mod TurnedLemmas
 pub mod BeginLemmas
 pub mod KeptLemmas
 pub mod WaitLemmas
+pub mod HangLemmas

@@ -1,14 +1,15 @@
 //! What it comes to that a plan is handed over, and that tapes are those of one run: laws, which
 //! hold of all plans and need no code.
-ghost use Rattle.std.specs.Prelude.{◌≡◌, ◌+◌, ◌<◌, ◌≤◌, ℕ, false, List, [], length, map};
-ghost use Rattle.std.specs.Prelude.{Option, None, Some};
+ghost use Rattle.std.specs.Prelude.{◌≡◌, ◌+◌, ◌<◌, ◌≤◌, ◌⊎◌, ℕ, false, List, [], length, map};
+ghost use Rattle.std.specs.Prelude.{Option, None, Some, slice_get};
 ghost use Rattle.grid.specs.declared.cell.Cell.{Cell};
-ghost use Rattle.grid.specs.Map.{Grid};
+ghost use Rattle.grid.specs.Map.{Grid, IsMap, IsPassable, with_blocked};
 ghost use Rattle.model.specs.Dependency.{IsRotation};
 ghost use Rattle.model.specs.Plan.{Plan, IsTimetableOf, IsValid};
 ghost use Rattle.model.specs.Rules.{path_cell};
 ghost use Rattle.model.specs.Safety.{MayBeIn};
-ghost use Rattle.model.specs.Timetable.{Track, Timetable, moves, track_of, IsConflictFree};
+ghost use Rattle.model.specs.Timetable.{Track, Timetable, moves, track_of};
+ghost use Rattle.model.specs.Timetable.{IsConflictFree, IsSwapFree};
 ghost use Rattle.depgraph.specs.Rotations.{Turn, AreRotations};
 ghost use Rattle.continuing.specs.Continuing.{cut_at};
 ghost use Rattle.agent.specs.States.{State, finished_moves};
@@ -23,8 +24,11 @@ ghost use Rattle.fleet_commands.specs.LeftWays.{IsRestOf, number_before, number_
 ghost use Rattle.fleet_commands.specs.LostPlaces.{AreTapesOf, IsFurthest};
 ghost use Rattle.fleet_commands.specs.Standing.{keepers_of, kept_count, kept_now, waited_for};
 ghost use Rattle.fleet_commands.specs.Standing.{waits_of};
-ghost use Rattle.fleet_commands.specs.StatusText.{run_lines};
+ghost use Rattle.fleet_commands.specs.StatusText.{run_lines, status_lines};
 ghost use Rattle.fleet_commands.specs.Waiting.{AreAllThatWait};
+ghost use Rattle.fleet_commands.specs.declared.keeping.Keeping.TheVariants.{OwnMove, OwnEnd};
+ghost use Rattle.fleet_commands.specs.declared.keeping.Keeping.TheVariants.{Nothing};
+ghost use Rattle.fleet_commands.specs.declared.status_line.StatusLine.TheVariants.{Circle};
 
 /// Where a plan is cut at a time by which all is made that was begun, no agent has begun more moves
 /// than what is left has, nor has its tape more records than two a move: so the fleet may go over
@@ -123,6 +127,32 @@ pub fn roots_keep_who_waits()
         × (length agents ≡ kept_count (keepers_of (waits_of tt found)) j) }
 {
     model::laws::needs();
+}
+
+/// A fleet hangs in a rotation alone. Where all tapes are known and `mapf status` writes no line of
+/// a rotation, somebody is moving or ready to move, or all have arrived.
+pub fn somebody_can_go()
+    ensures { (tt : Timetable) (turns : List Turn) (found : List Found) → IsConflictFree tt
+        → IsSwapFree tt → AreRotations tt turns → length found ≡ length tt.tracks
+        → AreAllKnown None found
+        → ((place number keeps : ℕ)
+        → slice_get (status_lines tt turns found) place ≡ Some (Circle number keeps) → ⊥)
+        → ((i : ℕ) × (kept_now tt found i ≡ OwnMove))
+        ⊎ (((i : ℕ) × (kept_now tt found i ≡ Nothing))
+        ⊎ ((i : ℕ) → i < length tt.tracks → kept_now tt found i ≡ OwnEnd)) }
+{}
+
+/// By a valid plan nobody is ever in a cell that its map blocks, however far each has come. So on a
+/// map with a cell blocked, as `mapf map --block` writes it, no plan leads anybody into that cell.
+pub fn blocked_cells_stay_free()
+    ensures passable { (map : Grid) (p : Plan) (tt : Timetable) (begun finished : ℕ → ℕ) (i : ℕ)
+        (c : Cell) → IsValid map p → IsTimetableOf p tt → MayBeIn tt begun finished i c
+        → IsPassable map c }
+    ensures blocked { (map blocked : Grid) (p : Plan) (tt : Timetable) (begun finished : ℕ → ℕ)
+        (i : ℕ) (c : Cell) → IsMap map → with_blocked map c ≡ Some blocked → IsValid blocked p
+        → IsTimetableOf p tt → MayBeIn tt begun finished i c → ⊥ }
+{
+    grid::laws::blocked_cells();
 }
 
 /// Where nothing shows that tapes are not those of one run, and an agent is opened on each, no two
