@@ -14,6 +14,8 @@ mod fleets;
 #[cfg(test)]
 mod graphs;
 #[cfg(test)]
+mod letters;
+#[cfg(test)]
 mod runs;
 #[cfg(test)]
 mod texts;
