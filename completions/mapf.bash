@@ -8,13 +8,13 @@ _mapf() {
     local faults='AgentCount AlreadyMoving AtEnd BadAct BadAgent BadEntry BadEvent BadHeader
         BadLength BadLine BadMagic BadMove BadNode BadNumber BadStart BadTable BadTag BadTape
         BadTear BadTerrain BadVersion BadWalk Broken Damaged Departs FieldCount GoalDiffers
-        LeafTooLow LineTooLong LongRow MissingRows NoHeader NoRoom NoSuchAgent NoSuchMessage
-        NoSuchRow NoTape NoVersion NotItsSender NotItsTopic NotMoving NotNewer NotOneRun NotSigned
-        NotTight OffMap OpenFailed OtherCount OtherNumber OtherPlan OtherRun OutOfGrid OutOfMemory
-        OutOfRange PlanDamaged PlansPart ReadFailed Rotation SameNumber ShortRow SizeDiffers
-        StaleTape StartDiffers StoreFailed Swap TapeEmptied TapeExists TapeFailed TapeInUse
-        TextAfter TooFewRows TooLarge TooLong TooMany Unfinished UnknownSender Vertex Waits
-        WriteFailed WrongAgent WrongPlan'
+        LeafTooLow LineTooLong LongRow MissingRows NoHeader NoRoom NoSuchAgent NoSuchCell
+        NoSuchMessage NoSuchRow NoTape NoVersion NotItsSender NotItsTopic NotMoving NotNewer
+        NotOneRun NotSigned NotTight OffMap OpenFailed OtherCount OtherNumber OtherPlan OtherRun
+        OutOfGrid OutOfMemory OutOfRange PlanDamaged PlansPart ReadFailed Rotation SameNumber
+        ShortRow SizeDiffers StaleTape StartDiffers StoreFailed Swap TapeEmptied TapeExists
+        TapeFailed TapeInUse TextAfter TooFewRows TooLarge TooLong TooMany Unfinished UnknownSender
+        Vertex Waits WriteFailed WrongAgent WrongPlan'
     COMPREPLY=()
     # bash takes the = of --name=VALUE for a word of its own.
     if [[ $word == = ]]; then
@@ -28,12 +28,12 @@ _mapf() {
         [[ -z $command && ${COMP_WORDS[at]} != -* ]] && command=${COMP_WORDS[at]}
     done
     case $command:$before in
-        rows:--from | rows:--to | check:--scen | check:--agents | check:--all | deps:--cell | path:--agent | anew:--without) return 0 ;;
+        map:--block | rows:--from | rows:--to | check:--scen | check:--agents | check:--all | deps:--cell | path:--agent | anew:--without) return 0 ;;
         agent:--tape) mapfile -t COMPREPLY < <(compgen -W 'new kept' -- "$word"); return ;;
     esac
     case $command in
         '') offers="$commands -h --help -V --version" ;;
-        map) offers='--explain -h --help' ;;
+        map) offers='--block --explain -h --help' ;;
         scen) offers='--explain -h --help' ;;
         row) offers='--explain -h --help' ;;
         rows) offers='--from --to --straight --progress --explain -h --help' ;;
