@@ -46,6 +46,26 @@ MAPS = [
     ("type octile\nheight 1\nwidth 2\nmap\n..\n  \nx", 1, "TextAfter 7"),
 ]
 
+# A map with a cell out of bounds: the cell, and what is answered.
+ALL_TERRAIN = "type octile\r\nheight  2\nwidth 04\nmap\n.G@O\r\nTSW.\n\n"
+BLOCKS = [
+    *((CORNER, f"{x} {y}", 0, blocked) for x, y, blocked in (
+        (0, 0, "type octile\nheight 2\nwidth 3\nmap\n@..\n.@.\n"), (2, 0, "type octile\nheight 2\nwidth 3\nmap\n..@\n.@.\n"),
+        (0, 1, "type octile\nheight 2\nwidth 3\nmap\n...\n@@.\n"), (2, 1, "type octile\nheight 2\nwidth 3\nmap\n...\n.@@\n"),
+        (1, 1, CORNER_WRITTEN),
+    )),
+    (ALL_TERRAIN, "1 0", 0, "type octile\nheight 2\nwidth 4\nmap\n.@@O\nTSW.\n"),
+    (ALL_TERRAIN, "3 0", 0, "type octile\nheight 2\nwidth 4\nmap\n.G@@\nTSW.\n"),
+    (ALL_TERRAIN, "1 1", 0, "type octile\nheight 2\nwidth 4\nmap\n.G@O\nT@W.\n"),
+    (CORNER, "3 0", 1, "NoSuchCell 3 0"),
+    (CORNER, "0 2", 1, "NoSuchCell 0 2"),
+    (CORNER, "2 2", 1, "NoSuchCell 2 2"),
+    (CORNER, "65535 65535", 1, "NoSuchCell 65535 65535"),
+    # That of the text comes first.
+    (SHORT, "9 9", 1, "ShortRow 6"),
+    ("", "0 0", 1, "BadHeader 1"),
+]
+
 SCENS = [
     (ROW, 0, ROW_WRITTEN),
     ("version 1.0\n0 m.map 3 2 0 1 1 0 2.00000000\r\n", 0, ROW_WRITTEN),
@@ -677,6 +697,8 @@ def answer(status: int, text: str) -> Ended:
 def of_maps_and_rows(harness: Harness) -> Iterator[Outcome]:
     for text, status, due in MAPS:
         yield asked(harness, "map M", {"M": text}, answer(status, due))
+    for text, cell, status, due in BLOCKS:
+        yield asked(harness, f"map M --block {cell}", {"M": text}, answer(status, due))
     for text, status, due in SCENS:
         yield asked(harness, "scen S", {"S": text}, answer(status, due))
     for map_text, scen_text, row, status, due in ROWS:

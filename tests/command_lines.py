@@ -25,6 +25,7 @@ FILES = {
 }
 NAMED_AS_OPTIONS = {"-h": FILES["M"], "--json": FILES["P"], "--scen": FILES["S"], "-": FILES["E"], "--complete": FILES["E"]}
 MAP = FILES["M"].decode()
+BLOCKED = "type octile\nheight 1\nwidth 3\nmap\n.@.\n"
 SCEN = "version 1\n0\tm.map\t3\t1\t1\t0\t2\t0\t1\n0\tm.map\t3\t1\t0\t0\t1\t0\t1\n0\tm.map\t3\t1\t0\t0\t2\t0\t2\n"
 ACCEPTED = "accepted agents 2 cost 2 makespan 1\n"
 JSON = '{"accepted":true,"agents":2,"cost":2,"makespan":1}\n'
@@ -64,6 +65,9 @@ COMMANDS = [
     ("map -- -h", MAP),
     ("map M --explain", MAP),
     ("map --explain M", MAP),
+    ("map M --block 1 0", BLOCKED),
+    ("map --block 1 0 M", BLOCKED),
+    ("map --block 0001 00 --explain -- M", BLOCKED),
     ("scen S", SCEN),
     ("row M S 0", "shortest 1 0 listed 1 agrees\n"),
     ("row M S 002", "shortest 2 0 listed 2 agrees\n"),
@@ -447,6 +451,17 @@ BAD = [
     ("deps M P X", "'X'", "Usage: mapf deps [OPTIONS] <map> <plan>"),
     ("deps M P --json", "'--json'", "Usage: mapf deps"),
     ("deps M P --scen S", "'--scen'", "Usage: mapf deps"),
+    ("map M --block", "'--block <X> <Y>'", "--help"),
+    ("map M --block 1", "'--block <X> <Y>'", "--help"),
+    ("map M --block=1 0", "'--block <X> <Y>'", "--help"),
+    ("map M --block 1 0 2", "'2'", "Usage: mapf map"),
+    ("map --block 1 0", "<file>", "Usage: mapf map"),
+    ("map M --block 1 0 --block 2 0", "--block", "Usage: mapf map"),
+    ("map M --block -1 0", "'-1'", "tip: a number from 0 on is wanted"),
+    ("map M --block 65536 0", "--block", "two numbers from 0 to 65535"),
+    ("map M --block 1 0x", "--block", "two numbers from 0 to 65535"),
+    ("map M --cell 1 0", "'--cell'", "Usage: mapf map"),
+    ("scen S --block 1 0", "'--block'", "Usage: mapf scen"),
     ("deps M P --cell", "'--cell <X> <Y>'", "--help"),
     ("deps M P --cell 1", "'--cell <X> <Y>'", "--help"),
     ("deps M P --cell=1 0", "'--cell <X> <Y>'", "--help"),
@@ -596,7 +611,7 @@ WHOLE = {
     "help chek": refusal("unrecognized subcommand 'chek'\n\n  tip: a similar command exists: 'check'", "<COMMAND>"),
     "help BadTerain": refusal("unrecognized subcommand 'BadTerain'", "<COMMAND>"),
     "row M S -1": refusal("unexpected argument '-1' found\n\n  tip: a number from 0 on is wanted", "row [OPTIONS] <map> <scen> <row>"),
-    "map -1": refusal("unexpected argument '-1' found\n\n  tip: to pass '-1' as a value, use '-- -1'", "map [OPTIONS] <file>"),
+    "scen -1": refusal("unexpected argument '-1' found\n\n  tip: to pass '-1' as a value, use '-- -1'", "scen [OPTIONS] <file>"),
     "map": refusal("the following required arguments were not provided:\n  <file>", "map <file>"),
     "map M M": refusal("unexpected argument 'M' found", "map [OPTIONS] <file>"),
     "run M P": refusal("the following required arguments were not provided:\n  <events>", "run <map> <plan> <events>"),
@@ -605,6 +620,9 @@ WHOLE = {
     "check M P --agents 2x": refusal("invalid value for '--agents <agents>': a number from 0 to 65535 is wanted, in digits alone", "check [OPTIONS] <map> <plan>"),
     "row M S 1x": refusal("invalid value '1x' for '<row>': a number from 0 to 4294967295 is wanted, in digits alone", "row [OPTIONS] <map> <scen> <row>"),
     "deps M P --cell 1": refusal("2 values required for '--cell <X> <Y>' but 1 was provided", "deps [OPTIONS] <map> <plan>"),
+    "map M --block 1 x": refusal(
+        "invalid value for '--block <X> <Y>': two numbers from 0 to 65535 are wanted, in digits alone", "map [OPTIONS] <file>"
+    ),
     "deps M P --cell 1 x": refusal(
         "invalid value for '--cell <X> <Y>': two numbers from 0 to 65535 are wanted, in digits alone", "deps [OPTIONS] <map> <plan>"
     ),

@@ -41,6 +41,7 @@ REPLIES = "refused Waits 0 1\nmoving 2 0\narrived 2 0\nrefused Waits 0 1\n"
 # Commands, and all that each writes.
 WRITING = [
     ("map C", CORNER_WRITTEN),
+    ("map C --block 2 0", "type octile\nheight 2\nwidth 3\nmap\n..@\n.@.\n"),
     ("scen S", ROW_WRITTEN),
     ("row C S 0", "shortest 2 0 listed 2.00000000 agrees\n"),
     ("rows C S", "0 shortest 2 0 listed 2.00000000 agrees\nrows 1 agree 1 differ 0 unreachable 0 size 0\n"),
@@ -76,6 +77,7 @@ WRITING = [
 # Commands with a fault, and the line of it.
 FAULTY = [
     ("map B", "mapf: ShortRow 6\n"),
+    ("map C --block 3 0", "mapf: NoSuchCell 3 0\n"),
     ("scen M", "mapf: NoVersion\n"),
     ("row C S 1", "mapf: NoSuchRow\n"),
     ("rows C S --from 2", "mapf: NoSuchRow\n"),
@@ -126,7 +128,7 @@ ODD_STREAMS = [
 
 # Commands that read a folder.
 UNREADABLE = [
-    *("map D", "scen D", "row D S 0", "row C D 0", "check D P", "check M D", "check M P --scen D"),
+    *("map D", "map D --block 0 0", "scen D", "row D S 0", "row C D 0", "check D P", "check M D", "check M P --scen D"),
     *("deps D P", "deps M D", "deps M D --cell 1 0", "path D P", "path M D", "cut D P 0", "cut M D 0", "continues D P Y", "continues M D Y", "continues M P D", "optimal D P Z", "optimal M D Z", "optimal M P D", "run D P E", "run M D E", "run M P D", "run M P D --complete", "agent D P 0 T", "agent M D 0 T"),
     *("status D P J%", "status M D J%", "lost D P J% 0", "lost M D J% 0", "handover D P J%", "handover M D J%", "anew D P J% 8", "anew M D J% 8"),
 ]

@@ -122,6 +122,8 @@ MOVES, WAITS, KEEPS = "0 between 1 0 2 0 done 0 of 1\n", "1 at 0 0 done 0 of 1 w
 TURN_DEPS = "agents 4 moves 4 needs 4 rotations 1\nneed 0 0 1 1\nneed 1 0 2 1\nneed 2 0 3 1\nneed 3 0 0 1\nrotation 0 0 1 2 3\n"
 CASES = [
     Case("map C", answer(0, CORNER_WRITTEN)),
+    Case("map C --block 2 0", answer(0, "type octile\nheight 2\nwidth 3\nmap\n..@\n.@.\n")),
+    Case("map C --block 3 0", answer(1, "NoSuchCell 3 0")),
     Case("map B", answer(1, "ShortRow 6")),
     Case("scen S", answer(0, ROW_WRITTEN)),
     Case("scen N", answer(1, "BadNumber 2 5")),

@@ -45,6 +45,10 @@ def map_text(rows: Sequence[str], end: str = "\n") -> bytes:
     return end.join(["type octile", f"height {len(rows)}", f"width {len(rows[0])}", "map", *rows, ""]).encode()
 
 
+# The greatest number of a column or a row that can be asked for.
+MOST_COORDINATE = 65_535
+
+
 def mixed_rows(width: int, height: int) -> list[str]:
     """Rows of all terrain, each a character further on than the one above."""
     terrain = ".GSW@OT"
@@ -59,6 +63,11 @@ def of_maps(harness: Harness) -> list[Outcome]:
         text, name = map_text(rows), f"a map of {width} x {height}"
         last, line = len(text) - 2, height + 4
         outcomes.append(asked(harness, name, "map M", {"M": map_text(rows, "\r\n")}, Ended(0, text, b"")))
+        blocked = text[:last] + b"@\n"
+        outcomes.append(asked(harness, f"{name}, its last cell", f"map M --block {width - 1} {height - 1}", {"M": text}, Ended(0, blocked, b"")))
+        for cell in (f"{width} {height - 1}", f"{width - 1} {height}"):
+            if int(cell.split()[0]) <= MOST_COORDINATE and int(cell.split()[1]) <= MOST_COORDINATE:
+                outcomes.append(asked(harness, f"{name}, no cell", f"map M --block {cell}", {"M": text}, answer(1, f"NoSuchCell {cell}")))
         for spoiled, fault in (
             (text[:last] + b"x\n", f"BadTerrain {line} {width}"),
             (text[:last] + b"\n", f"ShortRow {line}" if width > 1 else ""),

@@ -108,7 +108,7 @@ PARTS: dict[str, tuple[str, Callable[[Harness], Iterator[Outcome]]]] = {
     "package": ("Debian's package: made twice, installed on an empty root, called and removed", packaging.outcomes),
     "vectors": ("the answers of an independent implementation", vectors.outcomes),
     "fleet": ("robots as processes that are killed at random", fleet.outcomes),
-    "robots": ("robots on a network, over UDP and MQTT, and their black boxes", robots.outcomes),
+    "robots": ("robots on a network, over UDP and MQTT, adversities, and their black boxes", robots.outcomes),
     "signing": ("robots that sign: forged and changed messages, counts through kills, and certificates", signed_messages.outcomes),
     "vehicles": ("vehicles by VDA 5050, and the master control that has them drive", vehicles.outcomes),
 }

@@ -10,6 +10,7 @@ import subprocess
 import sys
 from typing import Iterator, NamedTuple, Optional, Sequence
 
+import going_around
 from answers import MOVING, OTHER_AGENT, STANDING
 from harness import ROOT, Harness, Outcome, compared, shown, side_by_side
 from handovers import NEW, TAPES, Fleet, begun_anew, cut_at, handed_over, rest_of, stopped
@@ -276,3 +277,4 @@ def outcomes(harness: Harness) -> Iterator[Outcome]:
     yield from of_names(harness)
     seeds = LONG_SEEDS if harness.is_long else SHORT_SEEDS
     yield from side_by_side(functools.partial(of_seed, harness, seed) for seed in seeds)
+    yield from going_around.outcomes(harness)

@@ -14,6 +14,7 @@ import threading
 import time
 from typing import Callable, Iterator, Optional, Sequence
 
+import adversities
 import boxes
 import campaign
 import lone_robots
@@ -456,6 +457,7 @@ def outcomes(harness: Harness) -> Iterator[Outcome]:
     tests = [*of_udp(harness), *of_mqtt(harness), *alone, *signals, *others]
     # Robots wait most of their time, so twice as many of these tests as of others run at once.
     yield from side_by_side(functools.partial(collected, tests[place::2]) for place in (0, 1))
+    yield from adversities.outcomes(harness)
     if harness.is_long:
         yield from campaign.outcomes(harness)
 

@@ -2,7 +2,7 @@
 """Writes what is to be planned anew for a fleet that was stopped, by the tapes of its agents.
 
 Usage: handover.py MAP PLAN TAPES FOLDER [--program PATH]
-       handover.py MAP PLAN TAPES FOLDER --without I [--number N] [--program PATH]
+       handover.py MAP PLAN TAPES FOLDER --without I [--blocked [X Y ..]] [--number N] [--program PATH]
 
 TAPES is the name of the agents' tapes, with % for an agent's number, as for `mapf status`. All agents
 have to be stopped: a tape that is in use is refused. In FOLDER, which is made where it isn't there,
@@ -17,12 +17,22 @@ With --without agent I is taken off the floor, and its tape may be lost. In FOLD
   others.plan what is left of the plan for the others, by `mapf anew`, under a new number
   others.scen a row for each of them, from where it stands to where the plan ends
 
+With --blocked agent I stays where it broke down: in the cells X Y .. that somebody saw, else in
+those in which its robot may be, by `mapf lost`. A robot whose tape doesn't say where it is has to be
+seen. In FOLDER is then also:
+
+  others.map  the map with these cells out of bounds, for the planner, and for all checks from now on
+
+`others.plan` is there only where what is left of the plan keeps out of these cells.
+
 All lengths in the scenarios are right, as `mapf rows` certifies. Standard output says at which time
 the plan is cut (`cut at T`). With --without it says which cells are free now (`freed X Y`, `freed
 X Y U V` where the agent was between two, `freed unknown FAULT` where its tape doesn't say); in which
 cells its robot may be, by `mapf lost` (`look X Y U V ..`, or `look unknown NotOneRun` where its tape
 is an older copy); which number each agent behind it had (`agent 4 was 5`); and whether `others.plan`
-can be driven.
+can be driven. With --blocked it says which cells are out of bounds (`blocked X Y U V ..`) in place
+of those that are free or to be looked at; and to which goals no way leads any more (`unreachable A
+X Y`, where the row lists the length 0).
 
 Status 0: written. 1: a text, a plan or a tape has a fault, told in one line. 2: a bad command line.
 3: a file or a tool failed. Unless it is 0, nothing is written.
@@ -35,7 +45,7 @@ import os
 import pathlib
 import sys
 import tempfile
-from typing import Iterator, Sequence
+from typing import Iterator, Optional, Sequence
 
 sys.dont_write_bytecode = True
 import mapf  # noqa: E402
@@ -49,13 +59,20 @@ from whole_file import Draft, draft  # noqa: E402
 Cell = tuple[int, int]
 # A start and a goal.
 Task = tuple[Cell, Cell]
-MOST_AGENT = 65_535
-# How a listed length is written.
-DECIMALS = 8
+MOST_AGENT = MOST_COORDINATE = 65_535
+# How a listed length is written, and that of a row whose goal can't be reached.
+DECIMALS, NO_LENGTH = 8, "0"
+OTHERS_MAP, OTHERS_PLAN = "others.map", "others.plan"
+# Where a plan enters a cell that is blocked.
+BAD_START, BAD_MOVE = "BadStart", "BadMove"
 
 
 def agent(word: str) -> int:
     return number_up_to(word, MOST_AGENT)
+
+
+def coordinate(word: str) -> int:
+    return number_up_to(word, MOST_COORDINATE)
 
 
 def read_words(words: Sequence[str]) -> argparse.Namespace:
@@ -65,11 +82,18 @@ def read_words(words: Sequence[str]) -> argparse.Namespace:
     parser.add_argument("tapes", metavar="TAPES", help="the files of their tapes, with %% for an agent's number")
     parser.add_argument("folder", type=pathlib.Path, metavar="FOLDER", help="where the files go")
     parser.add_argument("--without", type=agent, metavar="I", help="this agent is taken off the floor")
+    parser.add_argument(
+        "--blocked", type=coordinate, nargs="*", metavar="X Y", help="it stays, in these cells (in those where it may be)"
+    )
     parser.add_argument("--number", type=plan_number, metavar="N", help="the number of the plan of the others (one that is drawn)")
     parser.add_argument("--program", type=pathlib.Path, default=usual_program(), metavar="PATH", help="another program mapf than the usual one")
     given = parser.parse_args(words)
     if given.number is not None and given.without is None:
         parser.error("--number goes with --without: a cut keeps the number of its plan")
+    if given.blocked is not None and given.without is None:
+        parser.error("--blocked goes with --without: it says where that robot stays")
+    if len(given.blocked or ()) % 2:
+        parser.error("--blocked: a column and a row are wanted for each cell")
     return given
 
 
@@ -91,6 +115,8 @@ class Stopped:
     def __init__(self, given: argparse.Namespace, room: pathlib.Path):
         self.given, self.program = given, Program(given.program)
         self.map, self.plan = copied(given.map, room, "map"), copied(given.plan, room, "plan")
+        # The map of the plan to come, and its name.
+        self.room, self.next_map, self.next_name = room, self.map, pathlib.Path(given.map).name
         with blaming(given.map):
             _, height, width, _ = self.program.answer("map", *files(self.map)).split("\n", 3)
         self.size = f"{width.split()[1]}\t{height.split()[1]}"
@@ -119,15 +145,36 @@ class Stopped:
         with self.blamed(), self.held_stopped():
             return mapf.anew(self.map, self.plan, self.given.tapes, self.given.number, without=self.given.without, program=self.program)
 
-    def places_of(self, agent: int) -> str:
+    def places_of(self, agent: int) -> list[Cell]:
         """The cells in which the robot of an agent may be."""
         with self.held_stopped():
-            try:
-                places = mapf.lost(self.map, self.plan, self.given.tapes, agent, program=self.program)
-            except mapf.Fault as fault:
-                # The tape of this agent is an older copy: the others have moved as if it had finished more.
-                return f"look unknown {fault.words}"
-        return " ".join(["look", *(f"{it.x} {it.y}" for it in places)])
+            places = mapf.lost(self.map, self.plan, self.given.tapes, agent, program=self.program)
+        return [(it.x, it.y) for it in places]
+
+    def blocked(self, agent: int) -> list[Cell]:
+        """The cells in which the robot of an agent stays: those that somebody saw, else those in which it may be by its tape."""
+        seen = self.given.blocked
+        if seen:
+            return list(zip(seen[::2], seen[1::2]))
+        fault, places = self.status_of(agent).fault, []
+        try:
+            places = self.places_of(agent)
+        except mapf.Fault as other:
+            fault = fault or other.words
+        if fault:
+            tape = self.given.tapes.replace("%", str(agent))
+            raise Refused(f"{tape}: {fault}: say behind --blocked in which cells the robot was seen")
+        return places
+
+    def block(self, cells: Sequence[Cell]) -> str:
+        """The map with these cells out of bounds, on which the plan to come is planned and judged."""
+        target, text = self.room / "blocked", ""
+        for x, y in cells:
+            with blaming(self.given.map):
+                text = self.program.answer("map", "--block", str(x), str(y), *files(self.next_map))
+            target.write_text(text, encoding="ascii")
+            self.next_map, self.next_name = str(target), OTHERS_MAP
+        return text
 
     @contextlib.contextmanager
     def held_stopped(self) -> Iterator[None]:
@@ -146,22 +193,30 @@ class Stopped:
 
     def scenario(self, tasks: Sequence[Task], lengths: Sequence[str]) -> bytes:
         """A row for each task, with its length."""
-        head = b"0\t" + os.fsencode(pathlib.Path(self.given.map).name) + f"\t{self.size}\t".encode()
+        head = b"0\t" + os.fsencode(self.next_name) + f"\t{self.size}\t".encode()
         rows = (head + f"{x}\t{y}\t{u}\t{v}\t{length}\n".encode() for ((x, y), (u, v)), length in zip(tasks, lengths))
         return b"version 1\n" + b"".join(rows)
 
     @contextlib.contextmanager
-    def scenario_draft(self, tasks: Sequence[Task], target: pathlib.Path) -> Iterator[Draft]:
-        """A scenario whose lengths are right: those of a first draft are none, and tell what is due."""
+    def scenario_draft(self, tasks: Sequence[Task], target: pathlib.Path) -> Iterator[tuple[Draft, list[int]]]:
+        """A scenario whose lengths are right, and the rows that have none: those of a first draft are none, and tell what is due."""
         with blaming(str(target)):
             with draft([self.scenario(tasks, ["0"] * len(tasks))], None) as first:
-                found = mapf.rows(self.map, first.path, program=self.program).rows
-            lengths = [length_of(found[number]) for number in range(len(tasks))]
+                found = mapf.rows(self.next_map, first.path, program=self.program).rows
+            lengths = [self.length_of(found[number]) for number in range(len(tasks))]
             with draft([self.scenario(tasks, lengths)], target) as made:
-                counts = mapf.rows(self.map, made.path, program=self.program).counts
-                if counts["agree"] != len(tasks):
+                counts = mapf.rows(self.next_map, made.path, program=self.program).counts
+                if counts["agree"] + lengths.count(NO_LENGTH) != len(tasks):
                     raise mapf.Failed(f"{target}: `mapf rows` doesn't agree with its lengths")
-                yield made
+                yield made, [number for number, length in enumerate(lengths) if length == NO_LENGTH]
+
+    def length_of(self, row: mapf.Row) -> str:
+        """The shortest length of a row in digits; none where blocked cells leave no way."""
+        if row.straight is not None and row.diagonal is not None:
+            return f"{row.straight + row.diagonal * decimal.Decimal(2).sqrt():.{DECIMALS}f}"
+        if self.next_map == self.map:
+            raise mapf.Failed(f"`mapf rows` says '{row.verdict}' of a row that a plan solves")
+        return NO_LENGTH
 
 
 def is_in_use(tape: str) -> bool:
@@ -177,13 +232,6 @@ def is_in_use(tape: str) -> bool:
     finally:
         os.close(file)
     return False
-
-
-def length_of(row: mapf.Row) -> str:
-    """The shortest length of a row in digits."""
-    if row.straight is None or row.diagonal is None:
-        raise mapf.Failed(f"`mapf rows` says '{row.verdict}' of a row that a plan solves")
-    return f"{row.straight + row.diagonal * decimal.Decimal(2).sqrt():.{DECIMALS}f}"
 
 
 def tasks_of(plan: str) -> list[Task]:
@@ -205,7 +253,7 @@ def hand_over(fleet: Stopped, folder: pathlib.Path) -> list[str]:
     ends = tasks_of(pathlib.Path(fleet.plan).read_text(encoding="ascii"))
     tasks = [(start, end) for (_, start), (_, end) in zip(tasks_of(cut), ends)]
     folder.mkdir(exist_ok=True)
-    with draft([cut], folder / "cut.plan") as plan, fleet.scenario_draft(tasks, folder / "cut.scen") as scenario:
+    with draft([cut], folder / "cut.plan") as plan, fleet.scenario_draft(tasks, folder / "cut.scen") as (scenario, _):
         plan.put()
         scenario.put()
     # In the last step before it a begun move ends.
@@ -216,13 +264,63 @@ def go_on_without(fleet: Stopped, gone: int, folder: pathlib.Path) -> list[str]:
     """The plan of the others, and what is left of it to be planned."""
     others = fleet.others()
     tasks = tasks_of(others)
-    lines = [freed(fleet.status_of(gone)), fleet.places_of(gone), *(f"agent {agent} was {agent + 1}" for agent in range(gone, len(tasks)))]
+    lines = [freed(fleet.status_of(gone)), looked_for(fleet, gone)]
+    lines += [f"agent {agent} was {agent + 1}" for agent in range(gone, len(tasks))]
     folder.mkdir(exist_ok=True)
-    with draft([others], folder / "others.plan") as plan, fleet.scenario_draft(tasks, folder / "others.scen") as scenario:
+    with draft([others], folder / OTHERS_PLAN) as plan, fleet.scenario_draft(tasks, folder / "others.scen") as (scenario, _):
         verdict = mapf.check(fleet.map, plan.path, no_rotation=True, program=fleet.program)
         plan.put()
         scenario.put()
-    return [*lines, "others.plan can be driven" if verdict.accepted else f"others.plan can't be driven: {verdict.fault}. repair.py plans it anew"]
+    return [*lines, can_be_driven(verdict)]
+
+
+def go_on_around(fleet: Stopped, gone: int, folder: pathlib.Path) -> list[str]:
+    """The same where the agent stays: the map with its cells out of bounds, and the plan only where it keeps out of them."""
+    others = fleet.others()
+    tasks, cells = tasks_of(others), fleet.blocked(gone)
+    blocked = fleet.block(cells)
+    folder.mkdir(exist_ok=True)
+    with contextlib.ExitStack() as drafts:
+        map_draft = drafts.enter_context(draft([blocked], folder / OTHERS_MAP))
+        plan = drafts.enter_context(draft([others], folder / OTHERS_PLAN))
+        scenario, unreachable = drafts.enter_context(fleet.scenario_draft(tasks, folder / "others.scen"))
+        verdict = mapf.check(fleet.next_map, plan.path, no_rotation=True, program=fleet.program)
+        map_draft.put()
+        scenario.put()
+        if verdict.fault and verdict.fault.name in (BAD_START, BAD_MOVE):
+            # One of an earlier call would pass for it.
+            plan.target.unlink(missing_ok=True)
+        else:
+            plan.put()
+    lines = [" ".join(["blocked", *(f"{x} {y}" for x, y in cells)])]
+    lines += [f"agent {agent} was {agent + 1}" for agent in range(gone, len(tasks))]
+    lines += [f"unreachable {agent} {tasks[agent][1][0]} {tasks[agent][1][1]}" for agent in unreachable]
+    return [*lines, entered(others, verdict.fault) or can_be_driven(verdict)]
+
+
+def can_be_driven(verdict: mapf.Verdict) -> str:
+    return f"{OTHERS_PLAN} can be driven" if verdict.accepted else f"{OTHERS_PLAN} can't be driven: {verdict.fault}. repair.py plans it anew"
+
+
+def entered(plan: str, fault: Optional[mapf.FaultWords]) -> str:
+    """Who comes into a cell that is blocked, if somebody does: a plan of the old map has no other bad start or move."""
+    if not fault or fault.name not in (BAD_START, BAD_MOVE):
+        return ""
+    agent = fault.numbers[0]
+    _, x, y, acts = plan.splitlines()[3 + agent].split(" ")
+    made = acts[: fault.numbers[1] + 1] if fault.name == BAD_MOVE else ""
+    column, row = int(x) + made.count("e") - made.count("w"), int(y) + made.count("s") - made.count("n")
+    return f"{OTHERS_PLAN} isn't written: by it agent {agent} is in {column} {row}, which is blocked. Plan anew, by others.scen on {OTHERS_MAP}"
+
+
+def looked_for(fleet: Stopped, gone: int) -> str:
+    """The cells in which the robot of an agent may be."""
+    try:
+        places = fleet.places_of(gone)
+    except mapf.Fault as fault:
+        # The tape of this agent is an older copy: the others have moved as if it had finished more.
+        return f"look unknown {fault.words}"
+    return " ".join(["look", *(f"{x} {y}" for x, y in places)])
 
 
 def freed(status: mapf.AgentStatus) -> str:
@@ -238,7 +336,11 @@ def main(words: Sequence[str]) -> int:
     try:
         with tempfile.TemporaryDirectory(prefix="mapf-handover-") as name:
             fleet = Stopped(given, pathlib.Path(name))
-            lines = hand_over(fleet, given.folder) if given.without is None else go_on_without(fleet, given.without, given.folder)
+            if given.without is None:
+                lines = hand_over(fleet, given.folder)
+            else:
+                go_on = go_on_without if given.blocked is None else go_on_around
+                lines = go_on(fleet, given.without, given.folder)
         print("\n".join(lines))
     except Refused as fault:
         print(f"handover: {fault}", file=sys.stderr)
