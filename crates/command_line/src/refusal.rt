@@ -142,7 +142,17 @@ fn unknown_argument(
 fn takes_number(words: &[String]) -> bool {
     matches!(
         command_name(words),
-        "map" | "row" | "rows" | "check" | "deps" | "path" | "cut" | "agent" | "tape" | "lost" | "anew"
+        "map"
+            | "row"
+            | "rows"
+            | "check"
+            | "deps"
+            | "path"
+            | "cut"
+            | "agent"
+            | "tape"
+            | "lost"
+            | "anew"
     )
 }
 

@@ -136,7 +136,10 @@ fn put_size(path: &str, size: Option<Size>, page: &mut Page) {
     match size {
         Some(Size { width, height }) => {
             page.fill("{} has width ", &[path]);
-            page.fill("{} and height {}: columns and rows count from 0.\n", &[width, height]);
+            page.fill(
+                "{} and height {}: columns and rows count from 0.\n",
+                &[width, height],
+            );
         }
         None => page.fill(
             "{} has no cell with these numbers. Columns and rows count from 0.\n",

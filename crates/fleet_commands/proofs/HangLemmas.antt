@@ -107,8 +107,11 @@ module _ (table : Timetable) (found : List Found) where
           | inr rest ↦ elim rest [
             | inl arrived ↦ (let none = arrived.none_left in let count = ap moves same in absurd (omega (arith, left, none, count)))
             | inr stands ↦
-                inr (i, stands.kept ∙ met-nothing (need table i tape.track (tape.records / 2)) (subst (λ k. IsMet (finished_by found) (need table i tape.track k)) finished-is
-                (subst (λ t. IsMet (finished_by found) (need table i t (finished_by found i))) same met)))
+                inr (
+                  i,
+                  stands.kept ∙ met-nothing (need table i tape.track (tape.records / 2)) (subst (λ k. IsMet (finished_by found) (need table i tape.track k)) finished-is
+                      (subst (λ t. IsMet (finished_by found) (need table i t (finished_by found i))) same met)),
+                )
           ]
         ]
 

@@ -59,7 +59,7 @@ are_terrain-set (a ∷ bytes) (suc at) b one all =
 pub blocked-is : (m : Grid) (c : Cell) (bytes : List ℕ) (b : ℕ) → m.terrain ≡ map kind_of bytes → b ≡ 64
     → c.x < m.width → c.y < m.height
     → with_blocked m c
-        ≡ Some (record { width = m.width; height = m.height; terrain = map kind_of (slice_set bytes (place m c) b) })
+    ≡ Some (record { width = m.width; height = m.height; terrain = map kind_of (slice_set bytes (place m c) b) })
 blocked-is m c bytes b e is column row =
     ap (λ on. cond (on && ltb c.y m.height) (Some blocked) None) (lt-ltb c.x m.width column)
     ∙ ap (λ on. cond on (Some blocked) None) (lt-ltb c.y m.height row)

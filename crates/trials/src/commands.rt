@@ -3,9 +3,9 @@ use crate::endings::{End, Out, Outputs, reader};
 use crate::texts::{BEHIND, CORNER, EVENTS, LANE, REPLIES, ROW, TASKS};
 use grid::Cell;
 use mapf_cmd::{
-    BoundForm, CheckTerms, RowsAsked, block_cmd, bound_cmd, check_cmd, check_fit_cmd, continues_cmd,
-    cut_cmd, deps_cell_cmd, deps_cmd, map_cmd, optimal_cmd, path_cmd, row_cmd, rows_cmd, run_cmd,
-    scen_cmd, tape_cmd,
+    BoundForm, CheckTerms, RowsAsked, block_cmd, bound_cmd, check_cmd, check_fit_cmd,
+    continues_cmd, cut_cmd, deps_cell_cmd, deps_cmd, map_cmd, optimal_cmd, path_cmd, row_cmd,
+    rows_cmd, run_cmd, scen_cmd, tape_cmd,
 };
 use std::alloc::Global;
 

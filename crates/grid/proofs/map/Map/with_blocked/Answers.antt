@@ -10,9 +10,11 @@ use Rattle.grid.proofs.map.Map.with_blocked.Goals as goal
 pub invariant_of-self : goal.invariant_of-self
 invariant_of-self c =
     let m = c.self.inside in
-    let b = c.character.result in
-    (c.self.invariant.0, c.self.invariant.1,
-    are_terrain-set m.characters.items _ b (subst (λ n. IsTrue (is_terrain n)) (sym c.character.ensures) refl) c.self.invariant.2)
+    let b = c.character.result in (
+      c.self.invariant.0,
+      c.self.invariant.1,
+      are_terrain-set m.characters.items _ b (subst (λ n. IsTrue (is_terrain n)) (sym c.character.ensures) refl) c.self.invariant.2,
+    )
 
 pub returns-then-y-self : goal.returns-then-y-self
 returns-then-y-self c =
