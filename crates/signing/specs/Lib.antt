@@ -9,3 +9,7 @@ pub mod Letters
 pub mod Verifying
 -- what one process takes of letters, one after another
 pub mod Hearing
+-- how a sender counts, through kills and power cuts
+pub mod Counting
+-- what a sender seals
+pub mod Sealing
