@@ -1,10 +1,11 @@
 //! What a sender seals.
 ghost use Rattle.std.specs.Prelude.{◌≡◌, MatchResult};
+ghost use Rattle.signing.specs.declared.sealer.SealFault.TheVariants as seal_fault;
 ghost use Rattle.signing.specs.Sealing.{Seals, SealsNone, Sender};
 
 use crate::counter::{CountStore, Counter};
 use crate::letter::{Head, seal};
-use std::alloc::Global;
+use std::alloc::{AllocError, Global};
 use std::marker::Model;
 
 /// Why a message isn't sealed. Nothing is to be sent then.
@@ -13,6 +14,14 @@ pub enum SealFault {
     /// No block of counts can be reserved.
     CountFailed,
     OutOfMemory,
+}
+
+impl From<AllocError> for SealFault {
+    ghost from_gives = { λ _ fault. fault ≡ seal_fault.OutOfMemory };
+
+    fn from(_e: AllocError) -> SealFault {
+        SealFault::OutOfMemory
+    }
 }
 
 /// A sender of a run.
@@ -67,9 +76,7 @@ impl<S: CountStore> Sealer<S> {
             run: self.run,
             count,
         };
-        let Ok(letter) = seal(alloc, &self.key, head, message) else {
-            return Err(SealFault::OutOfMemory);
-        };
+        let letter = seal(alloc, &self.key, head, message)?;
         Ok(letter)
     }
 }

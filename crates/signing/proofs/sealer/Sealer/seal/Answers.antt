@@ -16,6 +16,6 @@ returns g c =
       };
       count = count;
       takes = subst (λ (s : Sender). CountsOn s.counting c.take.new.self count) view c.in-Ok.ensures;
-      is_sealed = c.in-Ok-seal.ensures
+      is_sealed = c.in_ok-letter.ensures
           ∙ ap (λ (s : Sender). sealed s.key (record { sender = s.number; run = s.run; count = count }) c.args.message.now) view;
     }
