@@ -20,6 +20,8 @@ gate: all crates: proof 4.2, tests 0.6, wrong bodies 2.0
 gate: 12.3 minutes on 4 processors
 """
 WHOLE = "rt: ok; handles allowed: none; must-fail edits: 2 refused; every proof and must-fail edit was done in this run\n"
+KEEPS_NONE = "rt: ok; handles allowed: none\n"
+SAYS = r"4 processors of .+: it took 12 minutes, and 7 of a processor: 4 for proofs, 1 for proved tests, 2 for 2 wrong bodies\."
 KEPT = "rt: ok; done in this run: 1 of the 3 proofs; the others are kept\n"
 TRIED = """rt: must-fail low/takes-one.edit: refused, as it must be: x
 rt: must-fail low/takes-two.edit: refused, as it must be
@@ -40,14 +42,15 @@ def made(harness: Harness, log: str, page: str) -> tuple[list[str], pathlib.Path
 
 
 def of_table(harness: Harness) -> Iterator[Outcome]:
-    command, folder = made(harness, TRIED + WHOLE + COUNTED, PAGE)
-    answer = harness.run(command)
-    page = (folder / "page.md").read_text(encoding="utf-8")
-    head, _, rest = page.partition("|Processor")
-    told = " ".join(head.split())
-    says = re.search(r"4 processors of .+: `rt ci` took 12 minutes, and 7 of a processor: 4 for proofs, 1 for proved tests, 2 for 2 wrong bodies\.", told)
-    wrote = (answer.status, answer.err, bool(says), f"|Processor{rest}")
-    yield compared("a table of a log", shown(command), wrote, (0, b"", True, f"{TABLE}\n<!--end-->\nMore.\n"))
+    for name, ok in (("a table of a log", WHOLE), ("of a kit that keeps no proofs", KEEPS_NONE)):
+        command, folder = made(harness, TRIED + ok + COUNTED, PAGE)
+        answer = harness.run(command)
+        page = (folder / "page.md").read_text(encoding="utf-8")
+        head, _, rest = page.partition("|Processor")
+        told = " ".join(head.split())
+        says = re.search(SAYS, told)
+        wrote = (answer.status, answer.err, bool(says), f"|Processor{rest}")
+        yield compared(name, shown(command), wrote, (0, b"", True, f"{TABLE}\n<!--end-->\nMore.\n"))
 
 
 def of_bad(harness: Harness) -> Iterator[Outcome]:
