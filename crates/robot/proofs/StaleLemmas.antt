@@ -21,7 +21,7 @@ use Rattle.agent.specs.Tellings.{Telling, IsInRange, BytesTell}
 use Rattle.agent.specs.declared.message.Message.{Message}
 use Rattle.agent.specs.declared.message.Message.TheVariants.{One, Two}
 use Rattle.agent.specs.declared.refusal.HearFault.{HearFault}
-use Rattle.robot.specs.Stale.{more_told, stale_number, IsHeeded}
+use Rattle.robot.specs.Stale.{more_told, stale_number, IsFresh, IsHeeded}
 use Rattle.robot.specs.Code.Answering.{IsStaleWord}
 use Rattle.robot.specs.Code.Telling.{IsMoreIn, IsNoMoreIn, if_more, number_taken, stale_word_of, telling_one, unless_refused}
 use Rattle.robot.specs.declared.stale.StaleWord.{StaleWord}
@@ -268,7 +268,14 @@ word_of tt i done bytes m n each_one each_two reads in_range same sender o r fro
 
 -- ---- what is heeded
 
-pub heeds_word : (tt : Timetable) (i : ℕ) (s : State) (bytes : List ℕ) (heeds : Bool) (r : Option StaleWord) → heeds ≡ true → s.broken ≡ false
-    → MatchOption r (IsNoMoreIn tt i (finished_moves s) bytes) (IsMoreIn tt i (finished_moves s) bytes) → MatchOption r (IsHeeded heeds tt i s bytes) (IsStaleWord tt i s bytes)
-heeds_word tt i s bytes heeds None heeded sound none = subst (λ b. IsHeeded b tt i s bytes) (sym heeded) (λ unbroken t tell. none t tell)
-heeds_word tt i s bytes heeds (Some w) heeded sound more = record { sound = sound; telling = more.0; tell = more.1; is_sender = more.2; more = more.3 }
+-- what is told of the moves of an agent that is not broken
+pub older-word : (tt : Timetable) (i : ℕ) (s : State) (bytes : List ℕ) (r : Option StaleWord) → s.broken ≡ false
+    → MatchOption r (IsNoMoreIn tt i (finished_moves s) bytes) (IsMoreIn tt i (finished_moves s) bytes) → MatchOption r (IsFresh tt i s bytes) (IsStaleWord tt i s bytes)
+older-word tt i s bytes None sound none = λ unbroken t tell. none t tell
+older-word tt i s bytes (Some w) sound more = record { sound = sound; telling = more.0; tell = more.1; is_sender = more.2; more = more.3 }
+
+-- it is heeded, where that is so
+pub heeds_word : (tt : Timetable) (i : ℕ) (s : State) (bytes : List ℕ) (heeds : Bool) (r : Option StaleWord) → heeds ≡ true
+    → MatchOption r (IsFresh tt i s bytes) (IsStaleWord tt i s bytes) → MatchOption r (IsHeeded heeds tt i s bytes) (IsStaleWord tt i s bytes)
+heeds_word tt i s bytes heeds None heeded fresh = subst (λ b. IsHeeded b tt i s bytes) (sym heeded) fresh
+heeds_word tt i s bytes heeds (Some w) heeded stale = stale

@@ -14,7 +14,7 @@ ghost use Rattle.robot.specs.Code.Reading.{request_in, FitsIn, IsLineKept};
 
 use crate::line_answer::LineAnswer;
 use crate::request::{Request, read_request};
-use crate::stale::{StaleWord, stale_word};
+use crate::stale::{StaleWord, older_tape};
 use agent::replies::{
     reply_to_delivery, reply_to_finish, reply_to_restart, reply_to_start, why_of,
 };
@@ -165,8 +165,8 @@ fn heeded_word<T: Tape>(
         (IsStaleWord tt agent.now.part.agent (state_of T.state agent.now) message.now) }
 {
     match heeded {
-        Some(part) if !agent.is_broken() => stale_word(part, agent.done(), message),
-        _ => None,
+        Some(part) => older_tape(agent, part, message),
+        None => None,
     }
 }
 

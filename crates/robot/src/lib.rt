@@ -16,6 +16,7 @@ mod talking;
 
 pub use file_tape::{FileTape, FileTapeFault};
 pub use guarded_tape::{Guard, GuardedTape};
+pub use stale::{StaleWord, older_tape};
 pub use sync_file::SyncFile;
 pub use talk_fault::TalkFault;
 pub use talking::{Talker, talk};

@@ -2,17 +2,38 @@
 ghost use Rattle.std.specs.Prelude.{◌≡◌, MatchOption, option_map};
 ghost use Rattle.model.specs.Timetable.{Timetable};
 ghost use Rattle.depgraph.specs.AgentParts.{IsPartOf};
+ghost use Rattle.agent.specs.Agents.{state_of};
+ghost use Rattle.robot.specs.Stale.{IsFresh, IsStale};
 ghost use Rattle.robot.specs.Code.Telling.{IsMoreIn, IsNoMoreIn, if_more};
 ghost use Rattle.robot.specs.Code.Telling.{number_taken, stale_word_of, telling_one};
 
-use agent::{Finished, Message, Told, read_message};
+use agent::{Agent, Finished, Message, Tape, Told, read_message};
 use depgraph::Part;
 
 /// What a message says: its sender, and how many moves its hearer has finished.
-#[derive(Clone, Copy)]
-pub(crate) struct StaleWord {
-    pub(crate) sender: u16,
-    pub(crate) number: u32,
+#[derive(Clone, Copy, Debug, PartialEq, Eq)]
+pub struct StaleWord {
+    pub sender: u16,
+    pub number: u32,
+}
+
+/// What a message says of the moves of its hearer, if it shows that the hearer's tape is an older
+/// one. A broken agent looks at no message.
+pub fn older_tape<T: Tape>(
+    agent: &Agent<'_, T>,
+    part: &Part<'_>,
+    message: &[u8],
+) -> Option<StaleWord>
+    requires { part.now ≡ agent.now.part }
+    ensures { (tt : Timetable) → IsPartOf tt agent.now.part → MatchOption result
+        (IsFresh tt agent.now.part.agent (state_of T.state agent.now) message.now)
+        (λ word. IsStale tt agent.now.part.agent (state_of T.state agent.now) message.now
+        word.sender word.number) }
+{
+    if agent.is_broken() {
+        return None;
+    }
+    stale_word(part, agent.done(), message)
 }
 
 /// What a message says of the agent of a part that has finished so many moves, where the agent

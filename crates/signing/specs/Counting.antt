@@ -1,14 +1,16 @@
 -- How a sender counts what it seals, through kills and power cuts.
 use Rattle.std.specs.Prelude.{◌≡◌, ℕ, ◌+◌, ◌≤◌, ◌<◌, ◌^◌, ◌⊎◌, List, [], ◌∷◌}
+use Rattle.text_io.specs.Counted.{one_more}
 
 -- so many counts are reserved at a time
 abbrev pub block : ℕ
 block = 1000
 
--- the count that is kept, below which all may have been used; the next one, and the end of those
--- that are reserved
+-- the count that is kept, below which all may have been used; how often one couldn't be kept; the
+-- next one, and the end of those that are reserved
 pub record Counting : Type 0 where
   pub kept : ℕ
+  pub failures : ℕ
   pub next : ℕ
   pub end : ℕ
 
@@ -28,13 +30,21 @@ pub record CountsOn (old new : Counting) (count : ℕ) : Type 0 where
   pub is_next : count ≡ old.next
   pub next : new.next ≡ count + 1
   pub rising : old.kept ≤ new.kept
+  pub none_failed : new.failures ≡ old.failures
   pub within : count < 2 ^ 64
 
--- none was, since no more could be reserved
+-- a block more would reach 2^64, or it couldn't be kept
+abbrev pub IsNoBlock : (old new : Counting) → Type 0
+IsNoBlock old new =
+    ((2 ^ 64 ≤ old.end + block) × (new.kept ≡ old.kept) × (new.failures ≡ old.failures))
+    ⊎ (MayKeep old new.kept × (new.failures ≡ one_more old.failures))
+
+-- none was: all that was reserved is used, and there is no block more
 pub record CountsNone (old new : Counting) : Type 0 where
+  pub all_used : old.next ≡ old.end
   pub next : new.next ≡ old.next
   pub end : new.end ≡ old.end
-  pub kept : MayKeep old new.kept
+  pub no_block : IsNoBlock old new
 
 -- the process ended, perhaps while a block more was to be kept, and another one begins behind all
 -- that is kept
