@@ -1,0 +1,129 @@
+-- What a loop does, and its agent's deeds.
+use Rattle.std.proofs.Common.{◌≡◌, ℕ, ◌+◌, ◌-◌, ◌≤◌, List, [], ◌∷◌, Some, None, Result, Ok, Err, inl, inr, arith, refl, sym, ap, subst, ◌∙◌}
+use Rattle.std.specs.Prelude.{Option}
+use Rattle.std.proofs.lemmas.Option.{none-some}
+use Rattle.grid.specs.declared.cell.Cell.{Cell}
+use Rattle.model.specs.declared.version.Version.{Version}
+use Rattle.model.specs.declared.version.Version.TheVariants.{One, Two}
+use Rattle.model.specs.Timetable.{Track, Timetable}
+use Rattle.agent.specs.States.{State, begun_moves, next_cell}
+use Rattle.agent.specs.declared.refusal.Refusal.{Refusal}
+use Rattle.agent.specs.declared.refusal.Refusal.TheVariants as refusal
+use Rattle.agent.specs.declared.refusal.TellFault.{TellFault}
+use Rattle.fleet.specs.Deeds.{Deed, starts, finishes, says, tells, looks, hears as hears_so, DoesAll}
+use Rattle.fleet.specs.Ahead.{told_free}
+use Rattle.fleet.specs.Fleets.{bytes_of, IsHonest}
+use Rattle.controller.specs.declared.command.Command.{Command}
+use Rattle.controller.specs.declared.command.Command.TheVariants as the_command
+use Rattle.controller.specs.declared.control.Due.{Due}
+use Rattle.controller.specs.declared.control.Due.TheVariants as due
+use Rattle.controller.specs.declared.controller.Settings.{Settings}
+use Rattle.controller.specs.Loops.{RobotEvent, reports, hears, ticks, stops, goes_on, LeadsRobot, AreDeeds, IsOwnDeed, one_or_none, sent_by, let_by}
+use Rattle.controller.specs.Robots.{Robot}
+use Rattle.controller.specs.Steps.{due_in, message_of_command, DoesDue, TellsOthers, IsSaidOrAlarm, IsToldOrAlarm, told_of_refusal, told_of_finish, told_of_start}
+
+-- the agent does what there is to do
+abbrev HasDeeds : Timetable → ℕ → Track → State → RobotEvent → State → Type 0
+HasDeeds table i track old happening new = (deeds : List Deed) × AreDeeds old happening deeds × DoesAll table i track old deeds new
+
+-- ---- what is not sent, and lets nobody go
+
+abbrev IsQuiet : ℕ → Option Command → Type 0
+IsQuiet begun command = (sent_by command ≡ []) × (let_by begun command ≡ 0)
+
+quiet-refusal : (begun : ℕ) (why : Refusal) → IsQuiet begun (Some (told_of_refusal why))
+quiet-refusal begun refusal.Broken = (refl, refl)
+quiet-refusal begun refusal.AlreadyMoving = (refl, refl)
+quiet-refusal begun refusal.AtEnd = (refl, refl)
+quiet-refusal begun (refusal.Waits agent count) = (refl, refl)
+quiet-refusal begun refusal.NotMoving = (refl, refl)
+quiet-refusal begun refusal.StoreFailed = (refl, refl)
+
+quiet-finish : (begun : ℕ) (answer : Result Cell Refusal) → IsQuiet begun (Some (told_of_finish answer))
+quiet-finish begun (Ok c) = (refl, refl)
+quiet-finish begun (Err why) = quiet-refusal begun why
+
+quiet-start : (begun : ℕ) (track : Track) (s : State) (answer : Result Cell Refusal) → IsQuiet begun (Some (told_of_start track s answer))
+quiet-start begun track s (Ok c) = (refl, refl)
+quiet-start begun track s (Err why) = quiet-refusal begun why
+
+-- a deed of which nothing is sent
+own-quiet : (old : State) (command : Option Command) (deed : Deed) → bytes_of deed ≡ [] → ((said : List (List ℕ)) → IsHonest said deed)
+    → IsQuiet (begun_moves old) command → IsOwnDeed old command deed
+own-quiet old command deed silent honest quiet = record {
+  says = silent ∙ sym quiet.0;
+  looks = subst (λ n. n ≤ told_free deed) (sym quiet.1) (omega arith);
+  hears_none = honest;
+}
+
+-- who sends lets nobody go
+sent-quiet : (begun : ℕ) (command : Command) (bytes : List ℕ) → message_of_command command ≡ Some bytes → let_by begun (Some command) ≡ 0
+sent-quiet begun (the_command.Go way) bytes e = absurd (none-some bytes e)
+sent-quiet begun _ bytes e = refl
+
+own-sent : (old : State) (command : Command) (bytes : List ℕ) (deed : Deed) → bytes_of deed ≡ bytes ∷ [] → ((said : List (List ℕ)) → IsHonest said deed)
+    → message_of_command command ≡ Some bytes → IsOwnDeed old (Some command) deed
+own-sent old command bytes deed speaks honest same = record {
+  says = speaks ∙ sym (ap one_or_none same);
+  looks = subst (λ n. n ≤ told_free deed) (sym (sent-quiet (begun_moves old) command bytes same)) (omega arith);
+  hears_none = honest;
+}
+
+module _ (settings : Settings) (table : Timetable) (i : ℕ) (track : Track) where
+  -- what is told to the others
+  says-own : (old : State) (said : Command) (answer : Result (List ℕ) Refusal) → IsSaidOrAlarm said answer → IsOwnDeed old (Some said) (says answer)
+  says-own old said (Ok bytes) same = own-sent old said bytes (says (Ok bytes)) refl (λ before. tt) same
+  says-own old said (Err why) same =
+      own-quiet old (Some said) (says (Err why)) refl (λ before. tt) (subst (λ k. IsQuiet (begun_moves old) (Some k)) (sym same) (quiet-refusal (begun_moves old) why))
+
+  tells-own : (old : State) (said : Command) (answer : Result (List ℕ) TellFault) → IsToldOrAlarm said answer → IsOwnDeed old (Some said) (tells answer)
+  tells-own old said (Ok bytes) same = own-sent old said bytes (tells (Ok bytes)) refl (λ before. tt) same
+  tells-own old said (Err why) same =
+      own-quiet old (Some said) (tells (Err why)) refl (λ before. tt) (subst (λ k. IsQuiet (begun_moves old) (Some k)) (sym same) (refl, refl))
+
+  tell-deeds : (version : Version) (old new : Robot) (said : Command) → TellsOthers version table i track old said new
+      → HasDeeds table i track old.state (goes_on (Some said)) new.state
+  tell-deeds One old new said (answer, does, is, after) = (says answer ∷ [], says-own old.state said answer is, (new.state, does, refl))
+  tell-deeds Two old new said (answer, does, is, after) = (tells answer ∷ [], tells-own old.state said answer is, (new.state, does, refl))
+
+  -- what is due is one deed at the most
+  due-deeds : (d : Due) (old new : Robot) (command : Option Command) → DoesDue d settings table i track old command new
+      → HasDeeds table i track old.state (goes_on command) new.state
+  due-deeds due.Nothing old new command (is, same) = ([], quiet-none command is, ap (λ (r : Robot). r.state) same) where
+    quiet-none : (c : Option Command) → c ≡ None → IsQuiet (begun_moves old.state) c
+    quiet-none c e = subst (IsQuiet (begun_moves old.state)) (sym e) (refl, refl)
+  due-deeds due.Ask old new command (is, same) = ([], subst (IsQuiet (begun_moves old.state)) (sym is) (refl, refl), ap (λ (r : Robot). r.state) same)
+  due-deeds due.Finish old new command (done, is, (answer, does, said, after)) = (
+    finishes answer ∷ [],
+    own-quiet old.state command (finishes answer) refl (λ before. tt) (subst (IsQuiet (begun_moves old.state)) (sym (is ∙ ap Some said)) (quiet-finish (begun_moves old.state) answer)),
+    (new.state, does, refl),
+  )
+  due-deeds due.Start old new command (done, is, (answer, does, said, after)) = (
+    starts answer ∷ [],
+    own-quiet old.state command (starts answer) refl (λ before. tt) (subst (IsQuiet (begun_moves old.state)) (sym (is ∙ ap Some said)) (quiet-start (begun_moves old.state) track new.state answer)),
+    (new.state, does, refl),
+  )
+  due-deeds due.Go old new command (done, is, goes) =
+      let begun = begun_moves old.state in
+      let way : command ≡ Some (the_command.Go (record { cell = next_cell track old.state; place = begun; free = goes.count })) = is ∙ ap Some goes.is_command in (
+        looks begun (goes.last - begun) goes.count ∷ [],
+        record {
+          says = sym (ap sent_by way);
+          looks = subst (λ n. n ≤ begun + goes.count) (sym (ap (let_by begun) way)) (omega arith);
+          hears_none = λ before. tt;
+        },
+        (new.state, goes.does, refl),
+      )
+  due-deeds due.Tell old new command (done, is, telling) =
+      subst (λ c. HasDeeds table i track old.state (goes_on c) new.state) (sym is) (tell-deeds settings.version old new done telling)
+
+  -- whatever happens is one deed at the most
+  pub leads-deeds : (old new : Robot) (happening : RobotEvent) → LeadsRobot settings table i track old happening new
+      → HasDeeds table i track old.state happening new.state
+  leads-deeds old new (reports report command) (inl (place, fits, is, same)) = ([], refl, ap (λ (r : Robot). r.state) same)
+  leads-deeds old new (reports report command) (inr (none, is, same)) = ([], refl, ap (λ (r : Robot). r.state) same)
+  leads-deeds old new (hears bytes command) (inl (sender, number, stale, is, same)) = ([], tt, ap (λ (r : Robot). r.state) same)
+  leads-deeds old new (hears bytes command) (inr (fresh, (answer, does, is, after))) = (hears_so bytes answer ∷ [], (answer, refl, is), (new.state, does, refl))
+  leads-deeds old new (ticks command) (is, same) = ([], refl, ap (λ (r : Robot). r.state) same)
+  leads-deeds old new stops same = ([], refl, ap (λ (r : Robot). r.state) same)
+  leads-deeds old new (goes_on command) does = due-deeds (due_in old) old new command does

@@ -1,0 +1,14 @@
+-- Lemmas that several proofs share.
+
+-- places on a path
+pub mod PlaceLemmas
+-- what an agent's calls come to for its loop
+pub mod StepLemmas
+-- when what is due
+pub mod DueLemmas
+-- what a loop does, and its agent's deeds
+pub mod DeedLemmas
+-- in which place a drive is
+pub mod DriveLemmas
+-- a fleet goes on as one
+pub mod FleetLemmas
