@@ -45,7 +45,7 @@ import os
 import pathlib
 import sys
 import tempfile
-from typing import Iterator, Optional, Sequence
+from typing import Iterator, Sequence
 
 sys.dont_write_bytecode = True
 import mapf  # noqa: E402
@@ -63,8 +63,8 @@ MOST_AGENT = MOST_COORDINATE = 65_535
 # How a listed length is written, and that of a row whose goal can't be reached.
 DECIMALS, NO_LENGTH = 8, "0"
 OTHERS_MAP, OTHERS_PLAN = "others.map", "others.plan"
-# Where a plan enters a cell that is blocked.
-BAD_START, BAD_MOVE = "BadStart", "BadMove"
+# Where a plan enters a cell that is blocked; and where its agents go round, which another plan mends.
+BAD_START, BAD_MOVE, ROTATION = "BadStart", "BadMove", "Rotation"
 
 
 def agent(word: str) -> int:
@@ -287,25 +287,28 @@ def go_on_around(fleet: Stopped, gone: int, folder: pathlib.Path) -> list[str]:
         verdict = mapf.check(fleet.next_map, plan.path, no_rotation=True, program=fleet.program)
         map_draft.put()
         scenario.put()
-        if verdict.fault and verdict.fault.name in (BAD_START, BAD_MOVE):
+        if verdict.accepted or (verdict.fault and verdict.fault.name == ROTATION):
+            plan.put()
+        else:
             # One of an earlier call would pass for it.
             plan.target.unlink(missing_ok=True)
-        else:
-            plan.put()
     lines = [" ".join(["blocked", *(f"{x} {y}" for x, y in cells)])]
     lines += [f"agent {agent} was {agent + 1}" for agent in range(gone, len(tasks))]
     lines += [f"unreachable {agent} {tasks[agent][1][0]} {tasks[agent][1][1]}" for agent in unreachable]
-    return [*lines, entered(others, verdict.fault) or can_be_driven(verdict)]
+    return [*lines, not_written(others, verdict) or can_be_driven(verdict)]
 
 
 def can_be_driven(verdict: mapf.Verdict) -> str:
     return f"{OTHERS_PLAN} can be driven" if verdict.accepted else f"{OTHERS_PLAN} can't be driven: {verdict.fault}. repair.py plans it anew"
 
 
-def entered(plan: str, fault: Optional[mapf.FaultWords]) -> str:
-    """Who comes into a cell that is blocked, if somebody does: a plan of the old map has no other bad start or move."""
-    if not fault or fault.name not in (BAD_START, BAD_MOVE):
+def not_written(plan: str, verdict: mapf.Verdict) -> str:
+    """Why a plan isn't written, if it isn't: who comes into a cell that is blocked, since a plan of the old map has no other bad start or move."""
+    fault = verdict.fault
+    if verdict.accepted or (fault and fault.name == ROTATION):
         return ""
+    if not fault or fault.name not in (BAD_START, BAD_MOVE):
+        return f"{OTHERS_PLAN} isn't written: {fault}"
     agent = fault.numbers[0]
     _, x, y, acts = plan.splitlines()[3 + agent].split(" ")
     made = acts[: fault.numbers[1] + 1] if fault.name == BAD_MOVE else ""
