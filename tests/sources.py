@@ -50,6 +50,8 @@ MADE = {
     "command_line/command_line.rt: refused": "has no memory for clap's answer, or clap had none",
     "command_line/words.rt: no_number": NO_TEXT,
     "continuing/cutting.rt: first_acts": NAMED_ANEW,
+    "controller/controller.rt: Controller::tell": NAMED_ANEW,
+    "controller/controller.rt: dropped_for": PASSED_ON,
     "executor/runner.rt: Runner::over": "was given an agent back that there was no room for",
     "executor/runner.rt: Runner::tell": PASSED_ON,
     "executor/runs.rt: run_with": "was given a reply back that there was no room for",

@@ -6,7 +6,7 @@ use Rattle.grid.specs.declared.cell.Cell.{Cell}
 use Rattle.model.specs.declared.version.Version.{Version}
 use Rattle.model.specs.declared.version.Version.TheVariants.{One, Two}
 use Rattle.model.specs.Timetable.{Track, Timetable}
-use Rattle.agent.specs.States.{State, begun_moves, next_cell}
+use Rattle.agent.specs.States.{State, begun_moves, finished_moves}
 use Rattle.agent.specs.declared.refusal.Refusal.{Refusal}
 use Rattle.agent.specs.declared.refusal.Refusal.TheVariants as refusal
 use Rattle.agent.specs.declared.refusal.TellFault.{TellFault}
@@ -24,92 +24,92 @@ use Rattle.controller.specs.Steps.{due_in, message_of_command, DoesDue, TellsOth
 
 -- the agent does what there is to do
 abbrev HasDeeds : Timetable → ℕ → Track → State → RobotEvent → State → Type 0
-HasDeeds table i track old happening new = (deeds : List Deed) × AreDeeds old happening deeds × DoesAll table i track old deeds new
+HasDeeds table i track old happening new = (deeds : List Deed) × AreDeeds happening deeds × DoesAll table i track old deeds new
 
 -- ---- what is not sent, and lets nobody go
 
-abbrev IsQuiet : ℕ → Option Command → Type 0
-IsQuiet begun command = (sent_by command ≡ []) × (let_by begun command ≡ 0)
+abbrev IsQuiet : Option Command → Type 0
+IsQuiet command = (sent_by command ≡ []) × (let_by command ≡ 0)
 
-quiet-refusal : (begun : ℕ) (why : Refusal) → IsQuiet begun (Some (told_of_refusal why))
-quiet-refusal begun refusal.Broken = (refl, refl)
-quiet-refusal begun refusal.AlreadyMoving = (refl, refl)
-quiet-refusal begun refusal.AtEnd = (refl, refl)
-quiet-refusal begun (refusal.Waits agent count) = (refl, refl)
-quiet-refusal begun refusal.NotMoving = (refl, refl)
-quiet-refusal begun refusal.StoreFailed = (refl, refl)
+quiet-refusal : (why : Refusal) → IsQuiet (Some (told_of_refusal why))
+quiet-refusal refusal.Broken = (refl, refl)
+quiet-refusal refusal.AlreadyMoving = (refl, refl)
+quiet-refusal refusal.AtEnd = (refl, refl)
+quiet-refusal (refusal.Waits agent count) = (refl, refl)
+quiet-refusal refusal.NotMoving = (refl, refl)
+quiet-refusal refusal.StoreFailed = (refl, refl)
 
-quiet-finish : (begun : ℕ) (answer : Result Cell Refusal) → IsQuiet begun (Some (told_of_finish answer))
-quiet-finish begun (Ok c) = (refl, refl)
-quiet-finish begun (Err why) = quiet-refusal begun why
+quiet-finish : (answer : Result Cell Refusal) → IsQuiet (Some (told_of_finish answer))
+quiet-finish (Ok c) = (refl, refl)
+quiet-finish (Err why) = quiet-refusal why
 
-quiet-start : (begun : ℕ) (track : Track) (s : State) (answer : Result Cell Refusal) → IsQuiet begun (Some (told_of_start track s answer))
-quiet-start begun track s (Ok c) = (refl, refl)
-quiet-start begun track s (Err why) = quiet-refusal begun why
+quiet-start : (track : Track) (s : State) (answer : Result Cell Refusal) → IsQuiet (Some (told_of_start track s answer))
+quiet-start track s (Ok c) = (refl, refl)
+quiet-start track s (Err why) = quiet-refusal why
 
 -- a deed of which nothing is sent
-own-quiet : (old : State) (command : Option Command) (deed : Deed) → bytes_of deed ≡ [] → ((said : List (List ℕ)) → IsHonest said deed)
-    → IsQuiet (begun_moves old) command → IsOwnDeed old command deed
-own-quiet old command deed silent honest quiet = record {
+own-quiet : (command : Option Command) (deed : Deed) → bytes_of deed ≡ [] → ((said : List (List ℕ)) → IsHonest said deed)
+    → IsQuiet command → IsOwnDeed command deed
+own-quiet command deed silent honest quiet = record {
   says = silent ∙ sym quiet.0;
   looks = subst (λ n. n ≤ told_free deed) (sym quiet.1) (omega arith);
   hears_none = honest;
 }
 
 -- who sends lets nobody go
-sent-quiet : (begun : ℕ) (command : Command) (bytes : List ℕ) → message_of_command command ≡ Some bytes → let_by begun (Some command) ≡ 0
-sent-quiet begun (the_command.Go way) bytes e = absurd (none-some bytes e)
-sent-quiet begun _ bytes e = refl
+sent-quiet : (command : Command) (bytes : List ℕ) → message_of_command command ≡ Some bytes → let_by (Some command) ≡ 0
+sent-quiet (the_command.Go way) bytes e = absurd (none-some bytes e)
+sent-quiet _ bytes e = refl
 
-own-sent : (old : State) (command : Command) (bytes : List ℕ) (deed : Deed) → bytes_of deed ≡ bytes ∷ [] → ((said : List (List ℕ)) → IsHonest said deed)
-    → message_of_command command ≡ Some bytes → IsOwnDeed old (Some command) deed
-own-sent old command bytes deed speaks honest same = record {
+own-sent : (command : Command) (bytes : List ℕ) (deed : Deed) → bytes_of deed ≡ bytes ∷ [] → ((said : List (List ℕ)) → IsHonest said deed)
+    → message_of_command command ≡ Some bytes → IsOwnDeed (Some command) deed
+own-sent command bytes deed speaks honest same = record {
   says = speaks ∙ sym (ap one_or_none same);
-  looks = subst (λ n. n ≤ told_free deed) (sym (sent-quiet (begun_moves old) command bytes same)) (omega arith);
+  looks = subst (λ n. n ≤ told_free deed) (sym (sent-quiet command bytes same)) (omega arith);
   hears_none = honest;
 }
 
 module _ (settings : Settings) (table : Timetable) (i : ℕ) (track : Track) where
   -- what is told to the others
-  says-own : (old : State) (said : Command) (answer : Result (List ℕ) Refusal) → IsSaidOrAlarm said answer → IsOwnDeed old (Some said) (says answer)
-  says-own old said (Ok bytes) same = own-sent old said bytes (says (Ok bytes)) refl (λ before. tt) same
-  says-own old said (Err why) same =
-      own-quiet old (Some said) (says (Err why)) refl (λ before. tt) (subst (λ k. IsQuiet (begun_moves old) (Some k)) (sym same) (quiet-refusal (begun_moves old) why))
+  says-own : (said : Command) (answer : Result (List ℕ) Refusal) → IsSaidOrAlarm said answer → IsOwnDeed (Some said) (says answer)
+  says-own said (Ok bytes) same = own-sent said bytes (says (Ok bytes)) refl (λ before. tt) same
+  says-own said (Err why) same =
+      own-quiet (Some said) (says (Err why)) refl (λ before. tt) (subst (λ k. IsQuiet (Some k)) (sym same) (quiet-refusal why))
 
-  tells-own : (old : State) (said : Command) (answer : Result (List ℕ) TellFault) → IsToldOrAlarm said answer → IsOwnDeed old (Some said) (tells answer)
-  tells-own old said (Ok bytes) same = own-sent old said bytes (tells (Ok bytes)) refl (λ before. tt) same
-  tells-own old said (Err why) same =
-      own-quiet old (Some said) (tells (Err why)) refl (λ before. tt) (subst (λ k. IsQuiet (begun_moves old) (Some k)) (sym same) (refl, refl))
+  tells-own : (said : Command) (answer : Result (List ℕ) TellFault) → IsToldOrAlarm said answer → IsOwnDeed (Some said) (tells answer)
+  tells-own said (Ok bytes) same = own-sent said bytes (tells (Ok bytes)) refl (λ before. tt) same
+  tells-own said (Err why) same =
+      own-quiet (Some said) (tells (Err why)) refl (λ before. tt) (subst (λ k. IsQuiet (Some k)) (sym same) (refl, refl))
 
   tell-deeds : (version : Version) (old new : Robot) (said : Command) → TellsOthers version table i track old said new
       → HasDeeds table i track old.state (goes_on (Some said)) new.state
-  tell-deeds One old new said (answer, does, is, after) = (says answer ∷ [], says-own old.state said answer is, (new.state, does, refl))
-  tell-deeds Two old new said (answer, does, is, after) = (tells answer ∷ [], tells-own old.state said answer is, (new.state, does, refl))
+  tell-deeds One old new said (answer, does, is, after) = (says answer ∷ [], says-own said answer is, (new.state, does, refl))
+  tell-deeds Two old new said (answer, does, is, after) = (tells answer ∷ [], tells-own said answer is, (new.state, does, refl))
 
   -- what is due is one deed at the most
   due-deeds : (d : Due) (old new : Robot) (command : Option Command) → DoesDue d settings table i track old command new
       → HasDeeds table i track old.state (goes_on command) new.state
   due-deeds due.Nothing old new command (is, same) = ([], quiet-none command is, ap (λ (r : Robot). r.state) same) where
-    quiet-none : (c : Option Command) → c ≡ None → IsQuiet (begun_moves old.state) c
-    quiet-none c e = subst (IsQuiet (begun_moves old.state)) (sym e) (refl, refl)
-  due-deeds due.Ask old new command (is, same) = ([], subst (IsQuiet (begun_moves old.state)) (sym is) (refl, refl), ap (λ (r : Robot). r.state) same)
+    quiet-none : (c : Option Command) → c ≡ None → IsQuiet c
+    quiet-none c e = subst (IsQuiet) (sym e) (refl, refl)
+  due-deeds due.Ask old new command (is, same) = ([], subst (IsQuiet) (sym is) (refl, refl), ap (λ (r : Robot). r.state) same)
   due-deeds due.Finish old new command (done, is, (answer, does, said, after)) = (
     finishes answer ∷ [],
-    own-quiet old.state command (finishes answer) refl (λ before. tt) (subst (IsQuiet (begun_moves old.state)) (sym (is ∙ ap Some said)) (quiet-finish (begun_moves old.state) answer)),
+    own-quiet command (finishes answer) refl (λ before. tt) (subst (IsQuiet) (sym (is ∙ ap Some said)) (quiet-finish answer)),
     (new.state, does, refl),
   )
   due-deeds due.Start old new command (done, is, (answer, does, said, after)) = (
     starts answer ∷ [],
-    own-quiet old.state command (starts answer) refl (λ before. tt) (subst (IsQuiet (begun_moves old.state)) (sym (is ∙ ap Some said)) (quiet-start (begun_moves old.state) track new.state answer)),
+    own-quiet command (starts answer) refl (λ before. tt) (subst (IsQuiet) (sym (is ∙ ap Some said)) (quiet-start track new.state answer)),
     (new.state, does, refl),
   )
   due-deeds due.Go old new command (done, is, goes) =
       let begun = begun_moves old.state in
-      let way : command ≡ Some (the_command.Go (record { cell = next_cell track old.state; place = begun; free = goes.count })) = is ∙ ap Some goes.is_command in (
+      let way : command ≡ Some (the_command.Go (record { first = finished_moves old.state; last = begun + goes.count })) = is ∙ ap Some goes.is_command in (
         looks begun (goes.last - begun) goes.count ∷ [],
         record {
           says = sym (ap sent_by way);
-          looks = subst (λ n. n ≤ begun + goes.count) (sym (ap (let_by begun) way)) (omega arith);
+          looks = subst (λ n. n ≤ begun + goes.count) (sym (ap (let_by) way)) (omega arith);
           hears_none = λ before. tt;
         },
         (new.state, goes.does, refl),
@@ -120,8 +120,8 @@ module _ (settings : Settings) (table : Timetable) (i : ℕ) (track : Track) whe
   -- whatever happens is one deed at the most
   pub leads-deeds : (old new : Robot) (happening : RobotEvent) → LeadsRobot settings table i track old happening new
       → HasDeeds table i track old.state happening new.state
-  leads-deeds old new (reports report command) (inl (place, fits, is, same)) = ([], refl, ap (λ (r : Robot). r.state) same)
-  leads-deeds old new (reports report command) (inr (none, is, same)) = ([], refl, ap (λ (r : Robot). r.state) same)
+  leads-deeds old new (reports report) (inl (place, fits, same)) = ([], refl, ap (λ (r : Robot). r.state) same)
+  leads-deeds old new (reports report) (inr (none, same)) = ([], refl, ap (λ (r : Robot). r.state) same)
   leads-deeds old new (hears bytes command) (inl (sender, number, stale, is, same)) = ([], tt, ap (λ (r : Robot). r.state) same)
   leads-deeds old new (hears bytes command) (inr (fresh, (answer, does, is, after))) = (hears_so bytes answer ∷ [], (answer, refl, is), (new.state, does, refl))
   leads-deeds old new (ticks command) (is, same) = ([], refl, ap (λ (r : Robot). r.state) same)

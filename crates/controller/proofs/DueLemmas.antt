@@ -1,7 +1,7 @@
 -- When what is due.
 use Rattle.std.proofs.Common.{◌≡◌, ℕ, ◌<◌, Bool, true, false, Some, None, refl}
-use Rattle.std.specs.Prelude.{if◌then◌else◌, nat_lt, Option}
-use Rattle.std.proofs.lemmas.Bool.{ltb-true}
+use Rattle.std.specs.Prelude.{if◌then◌else◌, nat_lt, ◌==◌, ◌&&◌, Option}
+use Rattle.std.proofs.lemmas.Bool.{ltb-true, eqb-true, and_parts}
 use Rattle.agent.specs.States.{finished_moves, is_on_the_way}
 use Rattle.controller.specs.declared.control.Control.{Control}
 use Rattle.controller.specs.declared.control.Due.{Due}
@@ -26,8 +26,7 @@ wish-go : (b : Bool) → wish b ≡ Go → ⊥
 wish-go true e = cc
 wish-go false e = cc
 
--- ---- while nothing is known of the drive
-
+-- the one before it is to ask
 abbrev lost : (ask tell : Bool) → Due
 lost ask tell = if ask then Ask else wish tell
 
@@ -43,59 +42,81 @@ lost-go : (ask tell : Bool) → lost ask tell ≡ Go → ⊥
 lost-go true tell e = cc
 lost-go false tell e = wish-go tell e
 
+-- and before that to go
+abbrev going : (go ask tell : Bool) → Due
+going go ask tell = if go then Go else lost ask tell
+
+going-finish : (go ask tell : Bool) → going go ask tell ≡ Finish → ⊥
+going-finish true ask tell e = cc
+going-finish false ask tell e = lost-finish ask tell e
+
+going-start : (go ask tell : Bool) → going go ask tell ≡ Start → ⊥
+going-start true ask tell e = cc
+going-start false ask tell e = lost-start ask tell e
+
+going-go : (go ask tell : Bool) → going go ask tell ≡ Go → go ≡ true
+going-go true ask tell e = refl
+going-go false ask tell e = absurd (lost-go ask tell e)
+
 -- ---- on the way
 
-abbrev way : (ahead go tell : Bool) → Due
-way ahead go tell = if ahead then Finish else (if go then Go else wish tell)
+abbrev way : (ahead go ask tell : Bool) → Due
+way ahead go ask tell = if ahead then Finish else going go ask tell
 
-way-finish : (ahead go tell : Bool) → way ahead go tell ≡ Finish → ahead ≡ true
-way-finish true go tell e = refl
-way-finish false true tell e = cc
-way-finish false false tell e = absurd (wish-finish tell e)
+way-finish : (ahead go ask tell : Bool) → way ahead go ask tell ≡ Finish → ahead ≡ true
+way-finish true go ask tell e = refl
+way-finish false go ask tell e = absurd (going-finish go ask tell e)
 
-way-start : (ahead go tell : Bool) → way ahead go tell ≡ Start → ⊥
-way-start true go tell e = cc
-way-start false true tell e = cc
-way-start false false tell e = wish-start tell e
+way-start : (ahead go ask tell : Bool) → way ahead go ask tell ≡ Start → ⊥
+way-start true go ask tell e = cc
+way-start false go ask tell e = going-start go ask tell e
 
-way-go : (ahead go tell : Bool) → way ahead go tell ≡ Go → ahead ≡ false
-way-go true go tell e = cc
-way-go false go tell e = refl
+way-go : (ahead go ask tell : Bool) → way ahead go ask tell ≡ Go → go ≡ true
+way-go true go ask tell e = cc
+way-go false go ask tell e = going-go go ask tell e
 
 -- ---- where the agent stands
 
-abbrev standing : (may tell : Bool) → Due
-standing may tell = if may then Start else wish tell
+abbrev standing : (may stopped go ask tell : Bool) → Due
+standing may stopped go ask tell = if may then Start else (if stopped then going go ask tell else lost ask tell)
 
-standing-finish : (may tell : Bool) → standing may tell ≡ Finish → ⊥
-standing-finish true tell e = cc
-standing-finish false tell e = wish-finish tell e
+standing-finish : (may stopped go ask tell : Bool) → standing may stopped go ask tell ≡ Finish → ⊥
+standing-finish true stopped go ask tell e = cc
+standing-finish false true go ask tell e = going-finish go ask tell e
+standing-finish false false go ask tell e = lost-finish ask tell e
 
-standing-start : (may tell : Bool) → standing may tell ≡ Start → may ≡ true
-standing-start true tell e = refl
-standing-start false tell e = absurd (wish-start tell e)
+standing-start : (may stopped go ask tell : Bool) → standing may stopped go ask tell ≡ Start → may ≡ true
+standing-start true stopped go ask tell e = refl
+standing-start false true go ask tell e = absurd (going-start go ask tell e)
+standing-start false false go ask tell e = absurd (lost-start ask tell e)
 
-standing-go : (may tell : Bool) → standing may tell ≡ Go → ⊥
-standing-go true tell e = cc
-standing-go false tell e = wish-go tell e
+standing-go : (may stopped go ask tell : Bool) → standing may stopped go ask tell ≡ Go → go ≡ true
+standing-go true stopped go ask tell e = cc
+standing-go false true go ask tell e = going-go go ask tell e
+standing-go false false go ask tell e = absurd (lost-go ask tell e)
 
 -- ---- by where the drive is
 
 module _ (c : Control) (done : ℕ) where
+  abbrev may_go : Bool
+  may_go = c.wants.go && (c.listens == 0)
+
   by-finish : (drive : Option ℕ) (moving : Bool) → due_by c drive done moving ≡ Finish → (place : ℕ) × (drive ≡ Some place) × (done < place) × (moving ≡ true)
   by-finish None moving e = absurd (lost-finish c.wants.ask c.wants.tell e)
-  by-finish (Some place) true e = (place, refl, ltb-true done place (way-finish (nat_lt done place) c.wants.go c.wants.tell e), refl)
-  by-finish (Some place) false e = absurd (standing-finish (may_start c place done) c.wants.tell e)
+  by-finish (Some place) true e = (place, refl, ltb-true done place (way-finish (nat_lt done place) may_go c.wants.ask c.wants.tell e), refl)
+  by-finish (Some place) false e = absurd (standing-finish (may_start c place done) c.is_stopped may_go c.wants.ask c.wants.tell e)
 
   by-start : (drive : Option ℕ) (moving : Bool) → due_by c drive done moving ≡ Start → (place : ℕ) × (drive ≡ Some place) × (may_start c place done ≡ true) × (moving ≡ false)
   by-start None moving e = absurd (lost-start c.wants.ask c.wants.tell e)
-  by-start (Some place) true e = absurd (way-start (nat_lt done place) c.wants.go c.wants.tell e)
-  by-start (Some place) false e = (place, refl, standing-start (may_start c place done) c.wants.tell e, refl)
+  by-start (Some place) true e = absurd (way-start (nat_lt done place) may_go c.wants.ask c.wants.tell e)
+  by-start (Some place) false e = (place, refl, standing-start (may_start c place done) c.is_stopped may_go c.wants.ask c.wants.tell e, refl)
 
-  by-go : (drive : Option ℕ) (moving : Bool) → due_by c drive done moving ≡ Go → (place : ℕ) × (drive ≡ Some place) × (nat_lt done place ≡ false) × (moving ≡ true)
+  by-go : (drive : Option ℕ) (moving : Bool) → due_by c drive done moving ≡ Go → (place : ℕ) × (drive ≡ Some place) × (c.listens ≡ 0)
   by-go None moving e = absurd (lost-go c.wants.ask c.wants.tell e)
-  by-go (Some place) true e = (place, refl, way-go (nat_lt done place) c.wants.go c.wants.tell e, refl)
-  by-go (Some place) false e = absurd (standing-go (may_start c place done) c.wants.tell e)
+  by-go (Some place) true e =
+      (place, refl, eqb-true _ _ (and_parts c.wants.go (c.listens == 0) (way-go (nat_lt done place) may_go c.wants.ask c.wants.tell e)).1)
+  by-go (Some place) false e =
+      (place, refl, eqb-true _ _ (and_parts c.wants.go (c.listens == 0) (standing-go (may_start c place done) c.is_stopped may_go c.wants.ask c.wants.tell e)).1)
 
   of-finish : (broken stale moving : Bool) → (if broken then Nothing else (if stale then wish c.wants.tell else due_by c c.drive done moving)) ≡ Finish
       → (broken ≡ false) × (stale ≡ false) × ((place : ℕ) × (c.drive ≡ Some place) × (done < place) × (moving ≡ true))
@@ -110,7 +131,7 @@ module _ (c : Control) (done : ℕ) where
   of-start false false moving e = (refl, refl, by-start c.drive moving e)
 
   of-go : (broken stale moving : Bool) → (if broken then Nothing else (if stale then wish c.wants.tell else due_by c c.drive done moving)) ≡ Go
-      → (broken ≡ false) × (stale ≡ false) × ((place : ℕ) × (c.drive ≡ Some place) × (nat_lt done place ≡ false) × (moving ≡ true))
+      → (broken ≡ false) × (stale ≡ false) × ((place : ℕ) × (c.drive ≡ Some place) × (c.listens ≡ 0))
   of-go true stale moving e = cc
   of-go false true moving e = absurd (wish-go c.wants.tell e)
   of-go false false moving e = (refl, refl, by-go c.drive moving e)
@@ -127,8 +148,8 @@ pub due-start : (r : Robot) → due_in r ≡ Start
     × ((place : ℕ) × (r.control.drive ≡ Some place) × (may_start r.control place (finished_moves r.state) ≡ true) × (is_on_the_way r.state ≡ false))
 due-start r e = of-start r.control (finished_moves r.state) r.state.broken r.control.is_stale (is_on_the_way r.state) e
 
--- the drive is to go on: a move was begun, and the drive is where it begins
+-- the drive is to go on: it is in a place that is known, and the loop has listened
 pub due-go : (r : Robot) → due_in r ≡ Go
     → (r.state.broken ≡ false) × (r.control.is_stale ≡ false)
-    × ((place : ℕ) × (r.control.drive ≡ Some place) × (nat_lt (finished_moves r.state) place ≡ false) × (is_on_the_way r.state ≡ true))
+    × ((place : ℕ) × (r.control.drive ≡ Some place) × (r.control.listens ≡ 0))
 due-go r e = of-go r.control (finished_moves r.state) r.state.broken r.control.is_stale (is_on_the_way r.state) e

@@ -40,28 +40,28 @@ honest-heard said bytes command (Err fault) is passed = tt
 abbrev IsSpokenSo : List (List ℕ) → RobotEvent → Deed → Type 0
 IsSpokenSo said happening deed = IsHonest said deed × (bytes_of deed ≡ sent_in happening)
 
-one-deed : (old : State) (happening : RobotEvent) (deed : Deed) (said : List (List ℕ)) → AreDeeds old happening (deed ∷ []) → WasSaidBefore said happening
+one-deed : (happening : RobotEvent) (deed : Deed) (said : List (List ℕ)) → AreDeeds happening (deed ∷ []) → WasSaidBefore said happening
     → IsSpokenSo said happening deed
-one-deed old (reports report command) deed said are passed = cc
-one-deed old (hears bytes command) deed said (answer, is, told) passed =
+one-deed (reports report) deed said are passed = cc
+one-deed (hears bytes command) deed said (answer, is, told) passed =
     subst (IsSpokenSo said (hears bytes command)) (sym is) (honest-heard said bytes command answer told passed, refl)
-one-deed old (ticks command) deed said are passed = cc
-one-deed old stops deed said are passed = cc
-one-deed old (goes_on command) deed said own passed = (own.hears_none said, own.says)
+one-deed (ticks command) deed said are passed = cc
+one-deed stops deed said are passed = cc
+one-deed (goes_on command) deed said own passed = (own.hears_none said, own.says)
 
-no-deed : (old : State) (happening : RobotEvent) → AreDeeds old happening [] → sent_in happening ≡ []
-no-deed old (reports report command) are = refl
-no-deed old (hears bytes command) are = refl
-no-deed old (ticks command) are = refl
-no-deed old stops are = refl
-no-deed old (goes_on command) are = are.0
+no-deed : (happening : RobotEvent) → AreDeeds happening [] → sent_in happening ≡ []
+no-deed (reports report) are = refl
+no-deed (hears bytes command) are = refl
+no-deed (ticks command) are = refl
+no-deed stops are = refl
+no-deed (goes_on command) are = are.0
 
-more-deeds : (old : State) (happening : RobotEvent) (deed next : Deed) (deeds : List Deed) → AreDeeds old happening (deed ∷ next ∷ deeds) → ⊥
-more-deeds old (reports report command) deed next deeds are = cc
-more-deeds old (hears bytes command) deed next deeds are = cc
-more-deeds old (ticks command) deed next deeds are = cc
-more-deeds old stops deed next deeds are = cc
-more-deeds old (goes_on command) deed next deeds are = cc
+more-deeds : (happening : RobotEvent) (deed next : Deed) (deeds : List Deed) → AreDeeds happening (deed ∷ next ∷ deeds) → ⊥
+more-deeds (reports report) deed next deeds are = cc
+more-deeds (hears bytes command) deed next deeds are = cc
+more-deeds (ticks command) deed next deeds are = cc
+more-deeds stops deed next deeds are = cc
+more-deeds (goes_on command) deed next deeds are = cc
 
 -- ---- the fleet
 
@@ -75,12 +75,12 @@ GoesOnBy table =
 pub fleet-led : (settings : Settings) (table : Timetable) (log : Log) (states : ℕ → State) (i : ℕ) (track : Track) (old : Robot) (happening : RobotEvent) (new : Robot)
     → GoesOnBy table → IsFleet table log states → track_of table i ≡ Some track → old.state ≡ states i → LeadsRobot settings table i track old happening new
     → WasSaidBefore (spoken log) happening
-    → (deeds : List Deed) × AreDeeds old.state happening deeds × IsFleet table (logged_behind i deeds log) (with_state states i new.state)
+    → (deeds : List Deed) × AreDeeds happening deeds × IsFleet table (logged_behind i deeds log) (with_state states i new.state)
     × (spoken (logged_behind i deeds log) ≡ spoken log ++ sent_in happening)
 fleet-led settings table log states i track old happening new on fleet there own leads passed =
     let done = leads-deeds settings table i track old new happening leads in by done.0 done.1 done.2 where
-      by : (deeds : List Deed) → AreDeeds old.state happening deeds → DoesAll table i track old.state deeds new.state
-          → (deeds : List Deed) × AreDeeds old.state happening deeds × IsFleet table (logged_behind i deeds log) (with_state states i new.state)
+      by : (deeds : List Deed) → AreDeeds happening deeds → DoesAll table i track old.state deeds new.state
+          → (deeds : List Deed) × AreDeeds happening deeds × IsFleet table (logged_behind i deeds log) (with_state states i new.state)
           × (spoken (logged_behind i deeds log) ≡ spoken log ++ sent_in happening)
       by [] are same = (
         [],
@@ -90,16 +90,16 @@ fleet-led settings table log states i track old happening new on fleet there own
           nobody_else = fleet.nobody_else;
           honest = fleet.honest;
         },
-        sym (ap (λ l. spoken log ++ l) (no-deed old.state happening are) ∙ append-nil (spoken log)),
+        sym (ap (λ l. spoken log ++ l) (no-deed happening are) ∙ append-nil (spoken log)),
       )
       by (deed ∷ []) are (mid, does, same) =
-          let spoken_so = one-deed old.state happening deed (spoken log) are passed in (
+          let spoken_so = one-deed happening deed (spoken log) are passed in (
             deed ∷ [],
             are,
             on log states i track deed new.state fleet there spoken_so.0 (subst (λ s. Does table i track s deed new.state) own (subst (Does table i track old.state deed) (sym same) does)),
             ap (λ l. spoken log ++ l) spoken_so.1,
           )
-      by (deed ∷ next ∷ deeds) are does = absurd (more-deeds old.state happening deed next deeds are)
+      by (deed ∷ next ∷ deeds) are does = absurd (more-deeds happening deed next deeds are)
 
 -- the same where agents run by plans of their own
 led-same : (Fits : Timetable → ℕ → Track → ℕ → Type 0) (doings : Doings) (states others : ℕ → State) → ((k : ℕ) → others k ≡ states k)
@@ -121,21 +121,21 @@ led-same Fits (now ∷ doings) states others same (mid, before, on) = (
 pub plans-led : (settings : Settings) (Fits : Timetable → ℕ → Track → ℕ → Type 0) (table : Timetable) (doings : Doings) (states : ℕ → State) (i : ℕ) (track : Track)
     (old : Robot) (happening : RobotEvent) (new : Robot) → IsFleetBy Fits doings states → track_of table i ≡ Some track → old.state ≡ states i
     → LeadsRobot settings table i track old happening new → Fits table i track (begun_moves new.state) → WasSaidBefore (spoken (log_of doings)) happening
-    → (deeds : List Deed) × AreDeeds old.state happening deeds × IsFleetBy Fits (done_behind table i deeds doings) (with_state states i new.state)
+    → (deeds : List Deed) × AreDeeds happening deeds × IsFleetBy Fits (done_behind table i deeds doings) (with_state states i new.state)
     × (spoken (log_of (done_behind table i deeds doings)) ≡ spoken (log_of doings) ++ sent_in happening)
 plans-led settings Fits table doings states i track old happening new fleet there own leads fits passed =
     let done = leads-deeds settings table i track old new happening leads in by done.0 done.1 done.2 where
-      by : (deeds : List Deed) → AreDeeds old.state happening deeds → DoesAll table i track old.state deeds new.state
-          → (deeds : List Deed) × AreDeeds old.state happening deeds × IsFleetBy Fits (done_behind table i deeds doings) (with_state states i new.state)
+      by : (deeds : List Deed) → AreDeeds happening deeds → DoesAll table i track old.state deeds new.state
+          → (deeds : List Deed) × AreDeeds happening deeds × IsFleetBy Fits (done_behind table i deeds doings) (with_state states i new.state)
           × (spoken (log_of (done_behind table i deeds doings)) ≡ spoken (log_of doings) ++ sent_in happening)
       by [] are same = (
         [],
         are,
         led-same Fits doings states (with_state states i new.state) (λ k. state-same states i new.state k (same ∙ own)) fleet,
-        sym (ap (λ l. spoken (log_of doings) ++ l) (no-deed old.state happening are) ∙ append-nil (spoken (log_of doings))),
+        sym (ap (λ l. spoken (log_of doings) ++ l) (no-deed happening are) ∙ append-nil (spoken (log_of doings))),
       )
       by (deed ∷ []) are (mid, does, same) =
-          let spoken_so = one-deed old.state happening deed (spoken (log_of doings)) are passed in
+          let spoken_so = one-deed happening deed (spoken (log_of doings)) are passed in
           let is = state-own states i new.state in (
             deed ∷ [],
             are,
@@ -153,4 +153,4 @@ plans-led settings Fits table doings states i track old happening new fleet ther
             ),
             ap (λ l. spoken (log_of doings) ++ l) spoken_so.1,
           )
-      by (deed ∷ next ∷ deeds) are does = absurd (more-deeds old.state happening deed next deeds are)
+      by (deed ∷ next ∷ deeds) are does = absurd (more-deeds happening deed next deeds are)

@@ -10,5 +10,9 @@ pub mod DueLemmas
 pub mod DeedLemmas
 -- in which place a drive is
 pub mod DriveLemmas
+-- what a loop does of itself
+pub mod OrderLemmas
 -- a fleet goes on as one
 pub mod FleetLemmas
+-- a turn stores something
+pub mod TurnLemmas

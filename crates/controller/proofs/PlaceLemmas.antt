@@ -7,8 +7,8 @@ use Rattle.grid.specs.declared.cell.Cell.{Cell}
 use Rattle.model.specs.Timetable.{Track, same_cell, collapsed, moves, path}
 use Rattle.model.specs.Laws.Tracks.{same_cell-same, same_cell-true, length-path}
 use Rattle.controller.specs.Places.{FitsAt, IsNew}
-use Rattle.controller.specs.declared.report.Report.{Report}
-use Rattle.controller.specs.declared.report.Report.TheVariants.{Stands, Between, Unclear}
+use Rattle.carrier_text.specs.declared.report.Report.{Report}
+use Rattle.carrier_text.specs.declared.report.Report.TheVariants.{Stands, Between, Unclear}
 
 -- the first cell of what is left of a path
 head-of : (d : Cell) (cells : List Cell) (u : Cell) → slice_get (collapsed d cells) 0 ≡ Some u → d ≡ u

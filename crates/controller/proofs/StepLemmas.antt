@@ -1,18 +1,15 @@
 -- What the calls of an agent come to for its loop. What a loop is inside is what its callers see.
-use Rattle.std.proofs.Common.{◌≡◌, ℕ, ◌+◌, ◌-◌, ◌<◌, ◌≤◌, arith, Bool, true, Some, Result, inl, inr, refl, sym, ap, subst, ◌∙◌}
-use Rattle.std.specs.Prelude.{◌⊎◌, List, Option, min}
-use Rattle.std.proofs.lemmas.Bool.{cond-true}
+use Rattle.std.proofs.Common.{◌≡◌, ℕ, ◌+◌, ◌-◌, ◌<◌, ◌≤◌, arith, Bool, Some, Result, inl, inr, refl, sym, ap, subst, ◌∙◌}
+use Rattle.std.specs.Prelude.{List, Option, min}
 use Rattle.std.proofs.lemmas.Option.{same_Some}
 use Rattle.grid.specs.declared.cell.Cell.{Cell}
 use Rattle.model.specs.declared.held.Held.{Held}
-use Rattle.model.specs.declared.held.Held.TheVariants.{At, Between}
 use Rattle.model.specs.declared.version.Version.TheVariants.{One, Two}
-use Rattle.model.specs.Rules.{path_cell}
 use Rattle.model.specs.Timetable.{Track, Timetable, path, track_of}
 use Rattle.depgraph.specs.AgentParts.{AgentPart, IsPartOf, IsOfGraph}
 use Rattle.agent.specs.Agents.{AgentOn, state_of, Starts, Finishes, Hears, IsHolding, Says, TellsAll}
 use Rattle.agent.specs.Ahead.{LooksAhead, IsFreeAhead}
-use Rattle.agent.specs.States.{State, Answers, start_refusal, finish_refusal, finished_moves, begun_moves, is_on_the_way, held_by_tape, next_cell}
+use Rattle.agent.specs.States.{Answers, start_refusal, finish_refusal, finished_moves, begun_moves, held_by_tape, next_cell}
 use Rattle.agent.specs.Tape.{TapeState}
 use Rattle.agent.specs.declared.refusal.HearFault.{HearFault}
 use Rattle.agent.specs.declared.refusal.Refusal.{Refusal}
@@ -27,20 +24,6 @@ use Rattle.controller.specs.Controls.{gone, most_ahead, stale, told_others}
 use Rattle.controller.specs.Places.{IsFurthestNew}
 use Rattle.controller.specs.Robots.{RobotOn, Robot, robot_of, IsSameRobot}
 use Rattle.controller.specs.Steps.{FinishesMove, StartsMove, LetsGo, TellsOthers, TakesMessage, IsStored, IsSaidOrAlarm, IsToldOrAlarm, told_of_finish, told_of_start, told_of_hearing, after_finish, after_start, after_hearing}
-
--- the next cell is the second of two that are held
-pub next-held : (track : Track) (s : State) (h : Held) (c : Cell) → is_on_the_way s ≡ true → h ≡ held_by_tape track s
-    → (((x : Cell) × (h ≡ Between x c)) ⊎ (h ≡ At c)) → c ≡ next_cell track s
-next-held track s h c on is either = by either where
-  here : Cell
-  here = path_cell track (finished_moves s)
-
-  two : h ≡ Between (path_cell track (finished_moves s)) (next_cell track s)
-  two = is ∙ cond-true (is_on_the_way s) (Between (path_cell track (finished_moves s)) (next_cell track s)) (At (path_cell track (finished_moves s))) on
-
-  by : (((x : Cell) × (h ≡ Between x c)) ⊎ (h ≡ At c)) → c ≡ next_cell track s
-  by (inl (x, e)) = let same : Between x c ≡ Between (path_cell track (finished_moves s)) (next_cell track s) = sym e ∙ two in cc
-  by (inr e) = let same : At c ≡ Between (path_cell track (finished_moves s)) (next_cell track s) = sym e ∙ two in cc
 
 module _ {T : Type 0} (seen : T → TapeState) (may_write : T → ℕ → List ℕ → Bool → T → Type 0) where
   -- a loop is still the same one
@@ -115,22 +98,6 @@ module _ {T : Type 0} (seen : T → TapeState) (may_write : T → ℕ → List �
       ap (λ x. the_command.Stored x n) (held.2 ∙ ap (λ t. held_by_tape t (state_of seen a)) same)
       ∙ ap (the_command.Stored (held_by_tape track (state_of seen a))) done)
 
-  pub next-cell : (a : AgentOn T) (s : Settings) (c : Control) (r : RobotOn T) → record { agent = a; settings = s; control = c } ≡ r
-      → (h : Held) (u : Cell) → ((table : Timetable) → IsPartOf table a.part → IsHolding seen table a h) → is_on_the_way (state_of seen r.agent) ≡ true
-      → (((x : Cell) × (h ≡ Between x u)) ⊎ (h ≡ At u))
-      → (table : Timetable) → IsPartOf table r.agent.part → (track : Track) → track_of table r.agent.part.agent ≡ Some track
-      → u ≡ next_cell track (state_of seen r.agent)
-  next-cell a s c r view h u holds on either =
-      subst
-      (λ (x : RobotOn T). is_on_the_way (state_of seen x.agent) ≡ true → (table : Timetable) → IsPartOf table x.agent.part → (track : Track)
-      → track_of table x.agent.part.agent ≡ Some track → u ≡ next_cell track (state_of seen x.agent))
-      view
-      (λ moving table is track there.
-      let held = holds table is in
-      let same = same_Some held.0 track (sym held.1 ∙ there) in
-      next-held track (state_of seen a) h u moving (held.2 ∙ ap (λ t. held_by_tape t (state_of seen a)) same) either)
-      on
-
   pub takes-stale : (a : AgentOn T) (s : Settings) (c d : Control) (r : RobotOn T) → record { agent = a; settings = s; control = c } ≡ r
       → (bytes : List ℕ) (sender number : ℕ) → ((table : Timetable) → IsPartOf table a.part → IsStale table a.part.agent (state_of seen a) bytes sender number)
       → d ≡ stale c
@@ -160,18 +127,16 @@ module _ {T : Type 0} (seen : T → TapeState) (may_write : T → ℕ → List �
       (λ table is track there. inr (fresh table is, (answer, (hears table is).state, said, after)))
 
   pub lets-go : (a : AgentOn T) (s : Settings) (c d : Control) (r : RobotOn T) → record { agent = a; settings = s; control = c } ≡ r
-      → (u : Cell) (begun ahead done last free : ℕ)
-      → ((table : Timetable) → IsPartOf table a.part → (track : Track) → track_of table a.part.agent ≡ Some track → u ≡ next_cell track (state_of seen a))
-      → begun ≡ begun_moves (state_of seen a) → ahead ≡ most_ahead c s.ahead → done ≡ finished_moves (state_of seen a)
+      → (begun ahead done last free sum : ℕ) → sum ≡ begun + free → begun ≡ begun_moves (state_of seen a) → ahead ≡ most_ahead c s.ahead → done ≡ finished_moves (state_of seen a)
       → IsFurthestNew a.part.cells done (begun + ahead) last
-      → ((table : Timetable) → IsPartOf table a.part → LooksAhead seen table a (last - begun) free) → d ≡ gone c (begun + free)
+      → ((table : Timetable) → IsPartOf table a.part → LooksAhead seen table a (last - begun) free) → d ≡ gone c sum
       → (table : Timetable) → IsPartOf table r.agent.part → (track : Track) → track_of table r.agent.part.agent ≡ Some track
-      → LetsGo r.settings table r.agent.part.agent track (robot_of seen r) (the_command.Go (record { cell = u; place = begun; free = free }))
+      → LetsGo r.settings table r.agent.part.agent track (robot_of seen r) (the_command.Go (record { first = done; last = sum }))
       (record { state = state_of seen a; control = d })
-  lets-go a s c d r view u begun ahead done last free cell is_begun is_ahead is_done is_last looks after =
+  lets-go a s c d r view begun ahead done last free sum is_sum is_begun is_ahead is_done is_last looks after =
       subst
       (λ (x : RobotOn T). (table : Timetable) → IsPartOf table x.agent.part → (track : Track) → track_of table x.agent.part.agent ≡ Some track
-      → LetsGo x.settings table x.agent.part.agent track (robot_of seen x) (the_command.Go (record { cell = u; place = begun; free = free }))
+      → LetsGo x.settings table x.agent.part.agent track (robot_of seen x) (the_command.Go (record { first = done; last = sum }))
       (record { state = state_of seen a; control = d }))
       view
       (λ table is track there.
@@ -192,9 +157,9 @@ module _ {T : Type 0} (seen : T → TapeState) (may_write : T → ℕ → List �
           refl,
         );
         is_command =
-            ap (λ x. the_command.Go (record { cell = x; place = begun; free = free })) (cell table is track there)
-            ∙ ap (λ k. the_command.Go (record { cell = next_cell track (state_of seen a); place = k; free = free })) is_begun;
-        control = after ∙ ap (λ k. gone c (k + free)) is_begun;
+            ap (λ n. the_command.Go (record { first = n; last = sum })) is_done
+            ∙ ap (λ k. the_command.Go (record { first = finished_moves (state_of seen a); last = k })) (is_sum ∙ ap (λ k. k + free) is_begun);
+        control = after ∙ ap (gone c) (is_sum ∙ ap (λ k. k + free) is_begun);
       })
 
   pub says-so : (a : AgentOn T) (s : Settings) (c d : Control) (r : RobotOn T) → record { agent = a; settings = s; control = c } ≡ r

@@ -11,23 +11,35 @@ use Rattle.controller.specs.declared.control.Due.TheVariants.{Finish, Start, Go,
 abbrev pub due_to_tell : Control → Due
 due_to_tell c = if c.wants.tell then Tell else Nothing
 
--- A move may begin if the loop wants it, has listened, and was not stopped. Where the drive is
--- ahead of the tape, the move has begun already.
+abbrev pub due_to_ask : Control → Due
+due_to_ask c = if c.wants.ask then Ask else due_to_tell c
+
+-- the drive may be let go if the loop wants it, and has listened
+abbrev pub due_to_go : Control → Due
+due_to_go c = if c.wants.go && (c.listens == 0) then Go else due_to_ask c
+
+-- A move may begin if the loop wants it. It has to have listened, and not to be stopped, unless the
+-- drive is ahead of the tape: then the move has begun already.
 abbrev pub may_start : Control → (place done : ℕ) → Bool
 may_start c place done =
-    c.wants.start && (c.listens == 0) && (not c.is_stopped || nat_lt done place)
+    c.wants.start && (nat_lt done place || ((c.listens == 0) && not c.is_stopped))
 
 -- The drive is in a place, and the tape has a move that was begun: the one behind so many that are
 -- finished.
 abbrev pub due_on_the_way : Control → (place done : ℕ) → Due
-due_on_the_way c place done =
-    if nat_lt done place then Finish else (if c.wants.go then Go else due_to_tell c)
+due_on_the_way c place done = if nat_lt done place then Finish else due_to_go c
+
+-- It is in a place, and the tape has none. A loop that was stopped has the drive stay.
+abbrev pub due_standing : Control → (place done : ℕ) → Due
+due_standing c place done =
+    if may_start c place done then Start
+    else (if c.is_stopped then due_to_go c else due_to_ask c)
 
 -- it is in that place, if a report says so
 abbrev pub due_by : Control → Option ℕ → (done : ℕ) → (is_moving : Bool) → Due
-due_by c None done is_moving = if c.wants.ask then Ask else due_to_tell c
+due_by c None done is_moving = due_to_ask c
 due_by c (Some place) done true = due_on_the_way c place done
-due_by c (Some place) done false = if may_start c place done then Start else due_to_tell c
+due_by c (Some place) done false = due_standing c place done
 
 -- of an agent that isn't broken; a loop whose tape is an older one only tells
 abbrev pub due_for : Control → (done : ℕ) → (is_moving : Bool) → Due
@@ -77,9 +89,9 @@ heard c = record c { wants = starting c.wants }
 abbrev pub stale : Control → Control
 stale c = record c { is_stale = true }
 
--- no move begins any more
+-- no move begins any more, and the drive is told so
 abbrev pub stopped : Control → Control
-stopped c = record c { is_stopped = true }
+stopped c = record c { is_stopped = true; wants = record c.wants { go = true } }
 
 -- A move was begun, or couldn't be. So many are begun then, and the drive may be as far as that.
 abbrev pub started : Control → (begun : ℕ) → Control

@@ -11,3 +11,5 @@ pub mod Robots
 pub mod Steps
 -- what happens to a robot, one thing after another
 pub mod Loops
+-- what has to happen to robots so that a fleet comes on
+pub mod Turns

@@ -3,7 +3,7 @@ use Rattle.std.specs.Prelude.{◌≡◌, ℕ, ◌+◌, ◌*◌, ◌<◌, ◌≤�
 use Rattle.std.specs.Prelude.{Option, None, Some, Result, slice_get}
 use Rattle.model.specs.Timetable.{Track, Timetable, moves, path}
 use Rattle.agent.specs.declared.refusal.HearFault.{HearFault}
-use Rattle.agent.specs.States.{State, finished_moves, begun_moves, is_on_the_way, next_cell}
+use Rattle.agent.specs.States.{finished_moves, begun_moves, is_on_the_way}
 use Rattle.fleet.specs.Ahead.{told_free}
 use Rattle.fleet.specs.Deeds.{Deed, hears as hears_so}
 use Rattle.fleet.specs.Fleets.{Log, bytes_of, IsHonest}
@@ -11,7 +11,7 @@ use Rattle.fleet.specs.OwnPlans.{Doings}
 use Rattle.controller.specs.declared.command.Command.{Command}
 use Rattle.controller.specs.declared.command.Command.TheVariants.{Go}
 use Rattle.controller.specs.declared.controller.Settings.{Settings}
-use Rattle.controller.specs.declared.report.Report.{Report}
+use Rattle.carrier_text.specs.declared.report.Report.{Report}
 use Rattle.controller.specs.Controls.{opened, stopped}
 use Rattle.controller.specs.declared.command.Way.{Way}
 use Rattle.controller.specs.Places.{FitsAt, IsInPlace, IsFurthestNew, IsNew}
@@ -21,7 +21,7 @@ use Rattle.controller.specs.Steps.{told_of_hearing}
 
 -- what came from outside or what the loop did of itself, each with what it answered
 pub data RobotEvent : Type 0 where
-  reports : Report → Option Command → RobotEvent
+  reports : Report → RobotEvent
   hears : List ℕ → Option Command → RobotEvent
   ticks : Option Command → RobotEvent
   stops : RobotEvent
@@ -29,8 +29,7 @@ pub data RobotEvent : Type 0 where
 
 -- it leads the robot from one state to another
 abbrev pub LeadsRobot : Settings → Timetable → ℕ → Track → Robot → RobotEvent → Robot → Type 0
-LeadsRobot settings tt i track old (reports report command) new =
-    TakesReport track report old command new
+LeadsRobot settings tt i track old (reports report) new = TakesReport track report old new
 LeadsRobot settings tt i track old (hears bytes command) new =
     TakesMessage tt i track bytes old command new
 LeadsRobot settings tt i track old (ticks command) new = TakesTick old command new
@@ -65,7 +64,7 @@ HasComeTo settings tt i track happened now =
 -- what it reported last
 abbrev pub last_report : List RobotEvent → Option Report
 last_report [] = None
-last_report (reports report command ∷ earlier) = Some report
+last_report (reports report ∷ earlier) = Some report
 last_report (_ ∷ earlier) = last_report earlier
 
 -- What the loop knows of its drive: if it knows in which place the drive is, the last report fits
@@ -91,19 +90,22 @@ pub record MayDrive (r : Robot) : Type 0 where
   pub unbroken : r.state.broken ≡ false
   pub own_tape : r.control.is_stale ≡ false
 
--- The drive is let go into the next cell. The tape has that move as begun, and the drive is where
--- it begins. The cells that are free behind that one are the next of the path, each another one.
--- The loop keeps how far it let the drive go.
+-- The drive is let go along the path, from the tape's place up to the end of the last move that the
+-- tape has as begun, and to places that are free behind that. It is in the first of them, or
+-- further on. Each of them has another cell. The loop has listened, and keeps how far it let the
+-- drive go. If it was stopped, it names no free place.
 pub record IsDueToGo (track : Track) (happened : List RobotEvent) (before : Robot) (way : Way)
     (after : Robot) : Type 0 where
   pub may_drive : MayDrive before
-  pub on_the_way : is_on_the_way before.state ≡ true
-  pub reported : IsReportedAt track happened (finished_moves before.state)
-  pub cell : way.cell ≡ next_cell track before.state
-  pub place : way.place ≡ begun_moves before.state
-  pub new_cells : (k : ℕ) → finished_moves before.state < k → k ≤ way.place + way.free
-      → IsNew (path track) (finished_moves before.state) k
-  pub far : way.place + way.free ≤ after.control.far
+  pub place : ℕ
+  pub reported : IsReportedAt track happened place
+  pub not_before : finished_moves before.state ≤ place
+  pub listened : before.control.listens ≡ 0
+  pub first : way.first ≡ finished_moves before.state
+  pub stored : begun_moves before.state ≤ way.last
+  pub stopped : before.control.is_stopped ≡ true → way.last ≡ begun_moves before.state
+  pub new_cells : (k : ℕ) → way.first < k → k ≤ way.last → IsNew (path track) way.first k
+  pub far : way.last ≤ after.control.far
 
 -- a move was begun, and the drive has come to its end, or further
 pub record IsDueToFinish (track : Track) (happened : List RobotEvent) (r : Robot) : Type 0 where
@@ -113,16 +115,16 @@ pub record IsDueToFinish (track : Track) (happened : List RobotEvent) (r : Robot
   pub reported : IsReportedAt track happened place
   pub behind : finished_moves r.state < place
 
--- None was begun, and the drive is where one begins, or further. The loop has listened. It wasn't
--- stopped, unless the drive has begun the move.
+-- None was begun, and the drive has begun one; or it is where one begins, and the loop has listened
+-- and wasn't stopped.
 pub record IsDueToStart (track : Track) (happened : List RobotEvent) (r : Robot) : Type 0 where
   pub may_drive : MayDrive r
   pub stands : is_on_the_way r.state ≡ false
   pub place : ℕ
   pub reported : IsReportedAt track happened place
   pub not_before : finished_moves r.state ≤ place
-  pub listened : r.control.listens ≡ 0
-  pub not_stopped : (r.control.is_stopped ≡ false) ⊎ (finished_moves r.state < place)
+  pub allowed : (finished_moves r.state < place)
+      ⊎ ((r.control.listens ≡ 0) × (r.control.is_stopped ≡ false))
 
 -- ---- the agent
 
@@ -135,27 +137,27 @@ abbrev pub sent_by : Option Command → List (List ℕ)
 sent_by None = []
 sent_by (Some command) = one_or_none (message_of_command command)
 
--- up to which place the drive is let go on, where so many moves are begun
-abbrev pub let_by : (begun : ℕ) → Option Command → ℕ
-let_by begun (Some (Go way)) = begun + way.free
-let_by begun _ = 0
+-- up to which place the drive is let go on
+abbrev pub let_by : Option Command → ℕ
+let_by (Some (Go way)) = way.last
+let_by _ = 0
 
 -- The agent does this deed while the loop does something of itself: what it says is sent, it was
 -- told of the way that the drive is let go, and it hears nothing.
-pub record IsOwnDeed (old : State) (command : Option Command) (deed : Deed) : Type 0 where
+pub record IsOwnDeed (command : Option Command) (deed : Deed) : Type 0 where
   pub says : bytes_of deed ≡ sent_by command
-  pub looks : let_by (begun_moves old) command ≤ told_free deed
+  pub looks : let_by command ≤ told_free deed
   pub hears_none : (said : List (List ℕ)) → IsHonest said deed
 
 -- The agent does these deeds: one at the most. What it hears is what came from outside.
-abbrev pub AreDeeds : State → RobotEvent → List Deed → Type 0
-AreDeeds old (hears bytes command) [] = Unit {0}
-AreDeeds old (hears bytes command) (deed ∷ []) =
+abbrev pub AreDeeds : RobotEvent → List Deed → Type 0
+AreDeeds (hears bytes command) [] = Unit {0}
+AreDeeds (hears bytes command) (deed ∷ []) =
     (answer : Result (ℕ × ℕ) HearFault) × (deed ≡ hears_so bytes answer)
     × (command ≡ told_of_hearing answer)
-AreDeeds old (goes_on command) [] = (sent_by command ≡ []) × (let_by (begun_moves old) command ≡ 0)
-AreDeeds old (goes_on command) (deed ∷ []) = IsOwnDeed old command deed
-AreDeeds old happening deeds = deeds ≡ []
+AreDeeds (goes_on command) [] = (sent_by command ≡ []) × (let_by command ≡ 0)
+AreDeeds (goes_on command) (deed ∷ []) = IsOwnDeed command deed
+AreDeeds happening deeds = deeds ≡ []
 
 -- A message that the agent heard had been said before. What was dropped may come from anywhere.
 abbrev pub WasSaidBefore : List (List ℕ) → RobotEvent → Type 0

@@ -1,8 +1,8 @@
 -- Places on an agent's path, numbered from 0 on, and which of them a report fits.
 use Rattle.std.specs.Prelude.{◌≡◌, ℕ, ◌+◌, ◌<◌, ◌≤◌, ◌⊎◌, List, Some, slice_get}
 use Rattle.grid.specs.declared.cell.Cell.{Cell}
-use Rattle.controller.specs.declared.report.Report.{Report}
-use Rattle.controller.specs.declared.report.Report.TheVariants.{Stands, Between, Unclear}
+use Rattle.carrier_text.specs.declared.report.Report.{Report}
+use Rattle.carrier_text.specs.declared.report.Report.TheVariants.{Stands, Between, Unclear}
 
 -- the furthest place in which a drive has a part of itself that reports this and is in a place
 abbrev pub front_of : Report → ℕ → ℕ

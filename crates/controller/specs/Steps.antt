@@ -12,7 +12,7 @@ use Rattle.agent.specs.declared.refusal.Refusal.{Refusal}
 use Rattle.agent.specs.declared.refusal.Refusal.TheVariants.{Waits, AtEnd}
 use Rattle.agent.specs.declared.refusal.TellFault.{TellFault}
 use Rattle.agent.specs.States.{State, finished_moves, begun_moves, is_on_the_way}
-use Rattle.agent.specs.States.{held_by_tape, next_cell}
+use Rattle.agent.specs.States.{held_by_tape}
 use Rattle.fleet.specs.Deeds.{starts, finishes, says, tells, hears, looks, Does}
 use Rattle.robot.specs.Stale.{IsStale, IsFresh}
 use Rattle.controller.specs.declared.command.Alarm.TheVariants as the_alarm
@@ -22,7 +22,7 @@ use Rattle.controller.specs.declared.control.Control.{Control}
 use Rattle.controller.specs.declared.control.Due.{Due}
 use Rattle.controller.specs.declared.control.Due.TheVariants as due
 use Rattle.controller.specs.declared.controller.Settings.{Settings}
-use Rattle.controller.specs.declared.report.Report.{Report}
+use Rattle.carrier_text.specs.declared.report.Report.{Report}
 use Rattle.controller.specs.Controls.{due_for, most_ahead, placed, misplaced, ticked, heard}
 use Rattle.controller.specs.Controls.{stale, started, not_started, finished_move, gone}
 use Rattle.controller.specs.Controls.{asked_drive, told_others}
@@ -32,14 +32,13 @@ use Rattle.controller.specs.Robots.{Robot, with_control}
 -- ---- what comes from outside
 
 -- A report of the drive. It fits a place from the finished moves of the tape up to the furthest in
--- which the drive may be; or it fits none, and a person is told.
-abbrev pub TakesReport : Track → Report → Robot → Option Command → Robot → Type 0
-TakesReport track report old command new =
+-- which the drive may be; or it fits none.
+abbrev pub TakesReport : Track → Report → Robot → Robot → Type 0
+TakesReport track report old new =
     ((place : ℕ) × FitsAt (path track) (finished_moves old.state) old.control.far report place
-    × (command ≡ None) × (new ≡ with_control old (placed old.control place)))
+    × (new ≡ with_control old (placed old.control place)))
     ⊎ (((place : ℕ) → FitsAt (path track) (finished_moves old.state) old.control.far report place
-    → ⊥) × (command ≡ Some (the_command.Alarm the_alarm.Misplaced))
-    × (new ≡ with_control old (misplaced old.control)))
+    → ⊥) × (new ≡ with_control old (misplaced old.control)))
 
 -- what it comes to that a message was heard
 abbrev pub after_hearing : Control → Result (ℕ × ℕ) HearFault → Control
@@ -66,7 +65,7 @@ TakesMessage tt i track bytes old command new =
     × Does tt i track old.state (hears bytes answer) new.state
     × (command ≡ told_of_hearing answer) × (new.control ≡ after_hearing old.control answer)))
 
--- Some time has passed. As long as a report fits no place, a person is told again.
+-- Some time has passed. As long as the last report fits no place, a person is told.
 abbrev pub TakesTick : Robot → Option Command → Robot → Type 0
 TakesTick old command new =
     (command
@@ -136,9 +135,9 @@ StartsMove tt i track old command new =
     × (command ≡ told_of_start track new.state answer)
     × (new.control ≡ after_start old.control (begun_moves new.state) answer)
 
--- The drive is let into the next cell, and into so many behind it: as many as are free where the
--- agent looks, at as many as the drive may be told of, and as have no cell twice with those from
--- the tape's cell on.
+-- The drive is let go from the tape's place on to the end of the move at hand, if one was begun,
+-- and into so many cells behind it: as many as are free where the agent looks, at as many as the
+-- drive may be told of, and as have no cell twice with those from the tape's place on.
 pub record LetsGo (settings : Settings) (tt : Timetable) (i : ℕ) (track : Track) (old : Robot)
     (command : Command) (new : Robot) : Type 0 where
   pub last : ℕ
@@ -150,9 +149,8 @@ pub record LetsGo (settings : Settings) (tt : Timetable) (i : ℕ) (track : Trac
   pub is_command
       : command
       ≡ the_command.Go (record {
-        cell = next_cell track old.state;
-        place = begun_moves old.state;
-        free = count;
+        first = finished_moves old.state;
+        last = begun_moves old.state + count;
       })
   pub control : new.control ≡ gone old.control (begun_moves old.state + count)
 

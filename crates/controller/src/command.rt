@@ -8,7 +8,7 @@ use robot::StaleWord;
 pub enum Command {
     /// Show where the robot is by its tape, and how many moves are finished.
     Stored(Held, u32),
-    /// Let the drive enter cells.
+    /// Let the drive go on.
     Go(Way),
     /// Have the drive report where it is.
     Ask,
@@ -28,13 +28,12 @@ pub enum Command {
     Alarm(Alarm),
 }
 
-/// The cells that a drive may enter: the next one of the path, which has this place on it, and so
-/// many behind it.
+/// The places of the path from a first to a last one. A drive that is in one of them may go on to
+/// those behind it, in order. One that is in none of them stands. No drive goes back.
 #[derive(Clone, Copy, Debug, PartialEq, Eq)]
 pub struct Way {
-    pub cell: Cell,
-    pub place: u32,
-    pub free: u32,
+    pub first: u32,
+    pub last: u32,
 }
 
 /// What a person has to know.

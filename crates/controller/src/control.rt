@@ -37,7 +37,7 @@ pub enum Due {
     Finish,
     /// It stores that a move begins.
     Start,
-    /// It lets the drive enter the next cell.
+    /// It lets the drive go on.
     Go,
     /// It asks the drive where it is.
     Ask,
@@ -73,11 +73,9 @@ impl Control {
     {
         match self.drive {
             _ if self.is_stale => self.due_to_tell(),
-            None if self.wants.ask => Due::Ask,
-            None => self.due_to_tell(),
+            None => self.due_to_ask(),
             Some(place) if is_moving => self.due_on_the_way(place, done),
-            Some(place) if self.may_start(place, done) => Due::Start,
-            Some(_) => self.due_to_tell(),
+            Some(place) => self.due_standing(place, done),
         }
     }
 
@@ -87,8 +85,39 @@ impl Control {
     {
         if place > done {
             Due::Finish
-        } else if self.wants.go {
+        } else {
+            self.due_to_go()
+        }
+    }
+
+    /// What is next for an agent that stands, while the drive is in a place.
+    fn due_standing(&self, place: u32, done: u32) -> Due
+        ensures { result ≡ controls.due_standing self.now place done }
+    {
+        if self.may_start(place, done) {
+            Due::Start
+        } else if self.is_stopped {
+            self.due_to_go()
+        } else {
+            self.due_to_ask()
+        }
+    }
+
+    fn due_to_go(&self) -> Due
+        ensures { result ≡ controls.due_to_go self.now }
+    {
+        if self.wants.go && self.listens == 0 {
             Due::Go
+        } else {
+            self.due_to_ask()
+        }
+    }
+
+    fn due_to_ask(&self) -> Due
+        ensures { result ≡ controls.due_to_ask self.now }
+    {
+        if self.wants.ask {
+            Due::Ask
         } else {
             self.due_to_tell()
         }
@@ -108,7 +137,7 @@ impl Control {
     fn may_start(&self, place: u32, done: u32) -> bool
         ensures { result ≡ may_start self.now place done }
     {
-        self.wants.start && self.listens == 0 && (!self.is_stopped || place > done)
+        self.wants.start && (place > done || (self.listens == 0 && !self.is_stopped))
     }
 
     /// How many moves behind the one at hand the drive may be told of.
@@ -183,6 +212,10 @@ impl Control {
     {
         Control {
             is_stopped: true,
+            wants: Wants {
+                go: true,
+                ..self.wants
+            },
             ..self
         }
     }

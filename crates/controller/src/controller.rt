@@ -1,16 +1,16 @@
 //! The control loop of a robot.
-ghost use Rattle.std.specs.Prelude.{◌≡◌, ◌+◌, ◌≤◌, ℕ, Some, Err, true};
+ghost use Rattle.std.specs.Prelude.{◌≡◌, ◌+◌, ◌≤◌, ℕ, Some, Err, slice_get};
 ghost use Rattle.model.specs.Timetable.{Track, Timetable, track_of};
 ghost use Rattle.depgraph.specs.AgentParts.{IsPartOf};
 ghost use Rattle.agent.specs.Agents.{state_of};
-ghost use Rattle.agent.specs.States.{finished_moves, begun_moves, is_on_the_way, next_cell};
+ghost use Rattle.agent.specs.States.{finished_moves, begun_moves};
 ghost use Rattle.controller.specs.Steps.{told_of_hearing, told_of_refusal};
 
 use crate::command::{Alarm, Command, Way};
 use crate::control::{Control, Due};
 use crate::places::{furthest, place_of};
-use crate::report::Report;
-use agent::{Agent, HearFault, Held, Refusal, Tape};
+use agent::{Agent, HearFault, Refusal, Tape};
+use carrier_text::Report;
 use depgraph::Part;
 use grid::Cell;
 use model::Version;
@@ -91,25 +91,25 @@ impl<'g, T: Tape> Controller<'g, T> {
         Command::Stored(self.agent.held(), self.agent.done())
     }
 
+    /// The cell of the agent's path with this place.
+    pub fn cell(&self, place: u32) -> Option<Cell>
+        ensures { result ≡ slice_get self.now.agent.part.cells place }
+    {
+        self.part.cell(place)
+    }
+
     /// Takes a report of the drive.
-    pub fn report(&mut self, report: Report) -> Option<Command>
+    pub fn report(&mut self, report: Report)
         ensures same { self.new.agent ≡ self.old.agent }
         ensures settings { self.new.settings ≡ self.old.settings }
         ensures takes { (tt : Timetable) → IsPartOf tt self.old.agent.part → (track : Track)
             → track_of tt self.old.agent.part.agent ≡ Some track
-            → TakesReport track report (robot_of T.state self.old) result
-            (robot_of T.state self.new) }
+            → TakesReport track report (robot_of T.state self.old) (robot_of T.state self.new) }
     {
-        match place_of(&self.part, report, self.agent.done(), self.control.far) {
-            Some(place) => {
-                self.control = self.control.placed(place);
-                None
-            }
-            None => {
-                self.control = self.control.misplaced();
-                Some(Command::Alarm(Alarm::Misplaced))
-            }
-        }
+        self.control = match place_of(&self.part, report, self.agent.done(), self.control.far) {
+            Some(place) => self.control.placed(place),
+            None => self.control.misplaced(),
+        };
     }
 
     /// Takes a message of another robot.
@@ -226,9 +226,9 @@ impl<'g, T: Tape> Controller<'g, T> {
         }
     }
 
-    /// Lets the drive enter the next cell, and those behind it that are free.
+    /// Lets the drive go on to the end of the move at hand, and into the cells behind that are
+    /// free.
     fn go(&mut self) -> Command
-        requires { is_on_the_way (state_of T.state self.old.agent) ≡ true }
         ensures same { IsSameRobot self.old self.new }
         ensures does { (tt : Timetable) → IsPartOf tt self.old.agent.part → (track : Track)
             → track_of tt self.old.agent.part.agent ≡ Some track
@@ -237,26 +237,12 @@ impl<'g, T: Tape> Controller<'g, T> {
     {
         let begun = begun(&self.agent, &self.part);
         let ahead = self.control.most_ahead(self.settings.ahead);
-        let last = furthest(&self.part, self.agent.done(), begun + ahead);
+        let first = self.agent.done();
+        let last = furthest(&self.part, first, begun + ahead);
         let free = self.agent.ahead(last.saturating_sub(begun));
-        self.control = self.control.gone(begun.saturating_add(free));
-        Command::Go(Way {
-            cell: self.next_cell(),
-            place: begun,
-            free,
-        })
-    }
-
-    /// The cell into which the agent is on its way.
-    fn next_cell(&self) -> Cell
-        requires { is_on_the_way (state_of T.state self.now.agent) ≡ true }
-        ensures { (tt : Timetable) → IsPartOf tt self.now.agent.part → (track : Track)
-            → track_of tt self.now.agent.part.agent ≡ Some track
-            → result ≡ next_cell track (state_of T.state self.now.agent) }
-    {
-        match self.agent.held() {
-            Held::Between(_, cell) | Held::At(cell) => cell,
-        }
+        let last = begun.saturating_add(free);
+        self.control = self.control.gone(last);
+        Command::Go(Way { first, last })
     }
 
     /// Tells the others what the agent knows.

@@ -7,9 +7,8 @@ mod control;
 mod controller;
 pub mod laws;
 mod places;
-mod report;
 
+pub use carrier_text::Report;
 pub use command::{Alarm, Command, Way};
-pub use control::{Control, Due};
+pub use control::{Control, Due, Wants};
 pub use controller::{Controller, Settings};
-pub use report::Report;

@@ -2,7 +2,7 @@
 ghost use Rattle.std.specs.Prelude.{◌≡◌, ◌↔◌, ◌≤◌, ℕ, IsTrue, MatchOption, Some, slice_get};
 ghost use Rattle.controller.specs.Places.{FitsAt, IsFurthestNew, IsNew};
 
-use crate::report::Report;
+use carrier_text::Report;
 use depgraph::Part;
 use grid::Cell;
 

@@ -1,5 +1,5 @@
 -- What is due, by what is sure.
-use Rattle.controller.proofs.DriveLemmas.{finishing, order, starting}
+use Rattle.controller.proofs.OrderLemmas.{finishing, order, starting}
 use Rattle.controller.proofs.laws.loops_keep_their_drives_in.Goals as goal
 
 pub returns-clause-go : goal.returns-clause-go

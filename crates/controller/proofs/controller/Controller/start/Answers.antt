@@ -28,7 +28,8 @@ returns-in-Ok-clause-same g c =
 pub returns-in-Ok-clause-does : goal.returns-in-Ok-clause-does
 returns-in-Ok-clause-does g c =
     let me = c.self.inside in
-    starts-move g.T.Tape.state g.T.Tape.may_write me.agent c.start-answer.new.self me.settings me.control c.started-self-inside.result c.args.self.now c.self.view_is c.stored.result (Ok c.in-Ok.field-0)
+    starts-move g.T.Tape.state g.T.Tape.may_write me.agent c.start-answer.new.self me.settings me.control c.started-self-inside.result c.args.self.now c.self.view_is c.stored.result
+    (Ok c.in-Ok.field-0)
     c.in-Ok.ensures.starts c.stored.ensures (c.started-self-inside.ensures ∙ ap (started me.control) c.begun-begun.ensures.begun)
 
 pub returns-in-Err-clause-same : goal.returns-in-Err-clause-same

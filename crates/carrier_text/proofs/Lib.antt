@@ -1,0 +1,4 @@
+-- Lemmas that several proofs share.
+pub mod CoordinateLemmas
+pub mod OneEvent
+pub mod WayLemmas
