@@ -28,7 +28,7 @@ pub(crate) struct CommandText<'a> {
 
 /// The version, and in a second line the kit that proved it, as `tools/dist.py` finds it.
 pub(crate) const VERSION: &str = "0.2.0-dev
-proved by rattle-kit-13b logic dac8208d650f15bf";
+proved by rattle-kit-13f logic dac8208d650f15bf";
 
 pub(crate) const PROGRAM_ABOUT: &str =
     "Reads maps, scenarios and plans, answers what they hold, and runs plans";
