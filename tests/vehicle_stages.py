@@ -21,6 +21,21 @@ PLAN = b"mapf-plan 1\nnumber 5050\nagents 2\nagent 3 0 eeeee\nagent 0 0 eeeeeee\
 STARTS = ("3.5 0.5", "0.5 0.5")
 # Nothing is sent in so many seconds, where nothing is to be sent.
 WHILE = 1.5
+# What a broker may have kept, by the agent that it seems to come from: of a run before, of another protocol, damaged, and of a stranger. The
+# first one would let the vehicle that waits go further.
+KEPT = {"0": "46010000000013b900000005", "6": "47010006000013ba00000005", "7": "46010007000013ba0000", "9": "46010009000013ba00000005"}
+REFUSED = ("WrongPlan", "BadMagic", "BadLength", "NoSuchAgent")
+# A client that has the broker at a port keep messages of the run.
+KEEP = """
+import json, sys
+import paho.mqtt.client as mqtt
+client = mqtt.Client(*([mqtt.CallbackAPIVersion.VERSION2] if hasattr(mqtt, "CallbackAPIVersion") else []))
+client.connect("127.0.0.1", int(sys.argv[1]))
+client.loop_start()
+for agent, message in json.loads(sys.argv[2]).items():
+    client.publish(f"mapf/5050/said/{agent}", bytes.fromhex(message), qos=1, retain=True).wait_for_publish()
+client.disconnect()
+"""
 
 
 class Stage:
@@ -147,15 +162,18 @@ def of_a_renamed_plan(stage: Stage) -> list[Outcome]:
 
 
 def of_two_masters(stage: Stage) -> list[Outcome]:
-    """Each has one vehicle, and hears by the broker what the other's agent says. The one whose vehicle waits is started first."""
+    """Each has one vehicle, and hears by the broker what the other's agent says. The one whose vehicle waits is started first. The broker has kept
+    messages that no agent may heed."""
+    subprocess.run([stage.python, "-c", KEEP, str(stage.broker.port), json.dumps(KEPT)], check=True, timeout=60)
     for agent in (0, 1):
         stage.vehicle(agent)
     stage.master("second")
     wait_until(lambda: stage.orders(1))
+    refused = wait_until(lambda: all(f"refused {fault}" in (stage.folder / "1.box").read_text(encoding="ascii") for fault in REFUSED))
     stage.master("first")
-    found = stage.have_arrived("first", "second")
+    found = (refused, stage.have_arrived("first", "second"))
     ran = f"two masters, which said {stage.said('first')[-400:]!r} {stage.said('second')[-400:]!r}"
-    return [compared("two masters", ran, found, True), *stage.judged("two masters")]
+    return [compared("two masters", ran, found, (True, True)), *stage.judged("two masters")]
 
 
 def of_a_vehicle_elsewhere(stage: Stage) -> list[Outcome]:
