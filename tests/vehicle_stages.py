@@ -169,7 +169,8 @@ def of_two_masters(stage: Stage) -> list[Outcome]:
         stage.vehicle(agent)
     stage.master("second")
     wait_until(lambda: stage.orders(1))
-    refused = wait_until(lambda: all(f"refused {fault}" in (stage.folder / "1.box").read_text(encoding="ascii") for fault in REFUSED))
+    box = stage.folder / "1.box"
+    refused = wait_until(lambda: box.exists() and all(f"refused {fault}" in box.read_text(encoding="ascii") for fault in REFUSED))
     stage.master("first")
     found = (refused, stage.have_arrived("first", "second"))
     ran = f"two masters, which said {stage.said('first')[-400:]!r} {stage.said('second')[-400:]!r}"
